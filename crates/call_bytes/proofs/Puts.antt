@@ -11,8 +11,8 @@ use Rattle.byte_words.specs.Patches.{laid}
 use Rattle.byte_words.proofs.Laid.{length-laid}
 use Rattle.byte_words.proofs.ByteArrays.{byte_of-laid}
 use Rattle.call_log.specs.declared.note.Got.{Got}
-use Rattle.call_log.specs.Values.{written_value}
-use Rattle.call_log.specs.Notes.{Written}
+use Rattle.call_log.specs.Values.{got_value}
+use Rattle.call_log.specs.Notes.{GotRange}
 use Rattle.call_log.specs.Sent.{Span}
 use Rattle.mmap_rules.specs.declared.owners.PageOwner.{PageOwner}
 use Rattle.mmap_rules.specs.declared.mapping.Mapping.{Mapping}
@@ -23,26 +23,26 @@ use Rattle.region_watch.proofs.Maps.{all_pass-at, all_pass-each, with_bytes-only
 use Rattle.region_watch.proofs.Accesses.{own_writable, range_parts, range_of}
 use Rattle.rv32im_step.specs.declared.access.Access.{Access}
 use Rattle.flat_loader.specs.Alone.{put_got}
-use Rattle.call_bytes.specs.Puts.{first_stray, access_at, IsRange, Put}
+use Rattle.call_bytes.specs.Puts.{stray_range, access_at, IsRange, Put}
 use Rattle.region_watch.specs.Private.{in_pages}
 use Rattle.call_bytes.proofs.Places.{any_at, at_any}
 
 -- where no range strays all are written
-pub put_all : (m : Bytes) (w : ℕ → Bool) (gots : List Written) → first_stray w gots ≡ None → (now : Bytes) × (put_got m w gots ≡ Ok now)
+pub put_all : (m : Bytes) (w : ℕ → Bool) (gots : List GotRange) → stray_range w gots ≡ None → (now : Bytes) × (put_got m w gots ≡ Ok now)
 put_all m w [] fits = (m, refl)
 put_all m w (g ∷ gots) fits = by_test (put_all (with_bytes m g.addr g.bytes) w gots) (may_use w g.addr (length g.bytes)) refl fits
   where
-    by_test : (first_stray w gots ≡ None → (now : Bytes) × (put_got (with_bytes m g.addr g.bytes) w gots ≡ Ok now)) → (b : Bool) → may_use w g.addr (length g.bytes) ≡ b → (if b then first_stray w gots else Some (record { addr = g.addr; len = length g.bytes })) ≡ None →
+    by_test : (stray_range w gots ≡ None → (now : Bytes) × (put_got (with_bytes m g.addr g.bytes) w gots ≡ Ok now)) → (b : Bool) → may_use w g.addr (length g.bytes) ≡ b → (if b then stray_range w gots else Some (record { addr = g.addr; len = length g.bytes })) ≡ None →
         (now : Bytes) × (put_got m w (g ∷ gots) ≡ Ok now)
     by_test later true is fits = let more = later fits in (more.0, rw is more.1)
     by_test later false is fits = absurd cc
 
 -- and the first that strays is the one that is found
-pub put_strays : (m : Bytes) (w : ℕ → Bool) (gots : List Written) (span : Span) → first_stray w gots ≡ Some span → put_got m w gots ≡ Err span
+pub put_strays : (m : Bytes) (w : ℕ → Bool) (gots : List GotRange) (span : Span) → stray_range w gots ≡ Some span → put_got m w gots ≡ Err span
 put_strays m w [] span is = absurd cc
 put_strays m w (g ∷ gots) span is = by_test (put_strays (with_bytes m g.addr g.bytes) w gots span) (may_use w g.addr (length g.bytes)) refl is
   where
-    by_test : (first_stray w gots ≡ Some span → put_got (with_bytes m g.addr g.bytes) w gots ≡ Err span) → (b : Bool) → may_use w g.addr (length g.bytes) ≡ b → (if b then first_stray w gots else Some (record { addr = g.addr; len = length g.bytes })) ≡ Some span →
+    by_test : (stray_range w gots ≡ Some span → put_got (with_bytes m g.addr g.bytes) w gots ≡ Err span) → (b : Bool) → may_use w g.addr (length g.bytes) ≡ b → (if b then stray_range w gots else Some (record { addr = g.addr; len = length g.bytes })) ≡ Some span →
         put_got m w (g ∷ gots) ≡ Err span
     by_test later true is found = rw is (later found)
     by_test later false is found = rw is (let done : Span → Result Bytes Span = λ x. Err x in ap done (same_Some _ _ found))
@@ -50,16 +50,16 @@ put_strays m w (g ∷ gots) span is = by_test (put_strays (with_bytes m g.addr g
 -- ---- one range after the other
 
 -- the items from a place on
-pub parts_at : (xs : List Got) (i : ℕ) (g : Got) → i < length xs → g ≡ get_or xs i g → map written_value (drop i xs) ≡ written_value g ∷ map written_value (drop (i + 1) xs)
+pub parts_at : (xs : List Got) (i : ℕ) (g : Got) → i < length xs → g ≡ get_or xs i g → map got_value (drop i xs) ≡ got_value g ∷ map got_value (drop (i + 1) xs)
 parts_at xs i g within is =
-    ap (map written_value) (drop-cons xs i g within)
-    ∙ ap (λ (x : Got). written_value x ∷ map written_value (drop (suc i) xs)) (sym is)
-    ∙ ap (λ (n : ℕ). written_value g ∷ map written_value (drop n xs)) (sym (add-one i))
+    ap (map got_value) (drop-cons xs i g within)
+    ∙ ap (λ (x : Got). got_value x ∷ map got_value (drop (suc i) xs)) (sym is)
+    ∙ ap (λ (n : ℕ). got_value g ∷ map got_value (drop n xs)) (sym (add-one i))
 
-pub range_at : (xs : List Got) (i : ℕ) (g : Got) → All IsRange (map written_value xs) → i < length xs → g ≡ get_or xs i g → IsRange (written_value g)
+pub range_at : (xs : List Got) (i : ℕ) (g : Got) → All IsRange (map got_value xs) → i < length xs → g ≡ get_or xs i g → IsRange (got_value g)
 range_at xs i g all within is =
-    let inside : i < length (map written_value xs) = omega (arith, length-map xs written_value, within) in
-    subst IsRange (get_or-map written_value xs i g ∙ ap written_value (sym is)) (All-get_or IsRange (map written_value xs) i (written_value g) inside all)
+    let inside : i < length (map got_value xs) = omega (arith, length-map xs got_value, within) in
+    subst IsRange (get_or-map got_value xs i g ∙ ap got_value (sym is)) (All-get_or IsRange (map got_value xs) i (got_value g) inside all)
 
 -- no access strays where none of the ranges does
 pub none_strays : (pc : ℕ) (found : Option Span) (o : Option Access) → o ≡ option_map (access_at pc) found → o ≡ None → found ≡ None
@@ -67,18 +67,18 @@ none_strays pc None o is none = refl
 none_strays pc (Some span) o is none = absurd (let e : Some (access_at pc span) ≡ None = sym is ∙ none in cc)
 
 -- a range that may be written is none that strays
-pub may_be_put : (w : ℕ → Bool) (left rest : List Written) (g : Written) → left ≡ g ∷ rest → may_use w g.addr (length g.bytes) ≡ true → first_stray w left ≡ first_stray w rest
-may_be_put w left rest g parts may = ap (first_stray w) parts ∙ (rw may refl)
+pub may_be_put : (w : ℕ → Bool) (left rest : List GotRange) (g : GotRange) → left ≡ g ∷ rest → may_use w g.addr (length g.bytes) ≡ true → stray_range w left ≡ stray_range w rest
+may_be_put w left rest g parts may = ap (stray_range w) parts ∙ (rw may refl)
 
-pub strays_first : (w : ℕ → Bool) (left rest : List Written) (g : Written) → left ≡ g ∷ rest → may_use w g.addr (length g.bytes) ≡ false
-    → first_stray w left ≡ Some (record { addr = g.addr; len = length g.bytes })
-strays_first w left rest g parts strays = ap (first_stray w) parts ∙ (rw strays refl)
+pub strays_first : (w : ℕ → Bool) (left rest : List GotRange) (g : GotRange) → left ≡ g ∷ rest → may_use w g.addr (length g.bytes) ≡ false
+    → stray_range w left ≡ Some (record { addr = g.addr; len = length g.bytes })
+strays_first w left rest g parts strays = ap (stray_range w) parts ∙ (rw strays refl)
 
 -- where none strays the first may be written
-first_may : (w : ℕ → Bool) (g : Written) (rest : List Written) → first_stray w (g ∷ rest) ≡ None → may_use w g.addr (length g.bytes) ≡ true
+first_may : (w : ℕ → Bool) (g : GotRange) (rest : List GotRange) → stray_range w (g ∷ rest) ≡ None → may_use w g.addr (length g.bytes) ≡ true
 first_may w g rest fits = by_test (may_use w g.addr (length g.bytes)) fits
   where
-    by_test : (b : Bool) → (if b then first_stray w rest else Some (record { addr = g.addr; len = length g.bytes })) ≡ None → b ≡ true
+    by_test : (b : Bool) → (if b then stray_range w rest else Some (record { addr = g.addr; len = length g.bytes })) ≡ None → b ≡ true
     by_test true fits = refl
     by_test false fits = absurd cc
 
@@ -102,21 +102,21 @@ range_in_bounds pages a len some is =
     (first.0, omega (arith, last.1))
 
 -- what was written of all ranges, and what is left of them
-pub record Putting (pages : ℕ) (old now : List ℕ) (all left : List Written) : Type 0 where
-  pub inside : first_stray (in_pages pages) left ≡ None
+pub record Putting (pages : ℕ) (old now : List ℕ) (all left : List GotRange) : Type 0 where
+  pub inside : stray_range (in_pages pages) left ≡ None
   pub puts : put_got (physical now) (in_pages pages) left ≡ put_got (physical old) (in_pages pages) all
   pub len : length now ≡ length old
 
-pub putting_begins : (pages : ℕ) (old : List ℕ) (all : List Written) → first_stray (in_pages pages) all ≡ None → Putting pages old old all all
+pub putting_begins : (pages : ℕ) (old : List ℕ) (all : List GotRange) → stray_range (in_pages pages) all ≡ None → Putting pages old old all all
 putting_begins pages old all inside = record { inside = inside; puts = refl; len = refl }
 
-pub putting_ends : (pages : ℕ) (old now : List ℕ) (all left : List Written) → Putting pages old now all left → left ≡ [] → put_got (physical old) (in_pages pages) all ≡ Ok (physical now)
+pub putting_ends : (pages : ℕ) (old now : List ℕ) (all left : List GotRange) → Putting pages old now all left → left ≡ [] → put_got (physical old) (in_pages pages) all ≡ Ok (physical now)
 putting_ends pages old now all left p none = sym p.puts ∙ ap (put_got (physical now) (in_pages pages)) none
 
-module _ (pages : ℕ) (old now : List ℕ) (all left rest : List Written) (g : Written) (paged : length old ≡ 4096 * pages) (p : Putting pages old now all left)
+module _ (pages : ℕ) (old now : List ℕ) (all left rest : List GotRange) (g : GotRange) (paged : length old ≡ 4096 * pages) (p : Putting pages old now all left)
     (parts : left ≡ g ∷ rest) (some : 0 < length g.bytes) where
   may_now : may_use (in_pages pages) g.addr (length g.bytes) ≡ true
-  may_now = first_may (in_pages pages) g rest (sym (ap (first_stray (in_pages pages)) parts) ∙ p.inside)
+  may_now = first_may (in_pages pages) g rest (sym (ap (stray_range (in_pages pages)) parts) ∙ p.inside)
 
   pub range_within : (2 ^ 31 ≤ g.addr) × (g.addr + length g.bytes ≤ 2 ^ 31 + length now)
   range_within =
@@ -144,14 +144,14 @@ module _ (pages : ℕ) (old now : List ℕ) (all left rest : List Written) (g : 
 
 -- what is written of a part, and in all of it
 module _ (own may wide : ℕ → Bool) (inside : (a : ℕ) → may a ≡ true → own a ≡ true) (now : Bytes) where
-  part_on : (g : Written) (gots : List Written) (m : Bytes) → first_stray may (g ∷ gots) ≡ None → put_got m wide (g ∷ gots) ≡ Ok now → put_got (with_bytes m g.addr g.bytes) wide gots ≡ Ok now
+  part_on : (g : GotRange) (gots : List GotRange) (m : Bytes) → stray_range may (g ∷ gots) ≡ None → put_got m wide (g ∷ gots) ≡ Ok now → put_got (with_bytes m g.addr g.bytes) wide gots ≡ Ok now
   part_on g gots m fits puts = by_test (may_use wide g.addr (length g.bytes)) puts
     where
       by_test : (b : Bool) → (if b then put_got (with_bytes m g.addr g.bytes) wide gots else Err (record { addr = g.addr; len = length g.bytes })) ≡ Ok now → put_got (with_bytes m g.addr g.bytes) wide gots ≡ Ok now
       by_test true puts = puts
       by_test false puts = absurd cc
 
-  pub part_put : (gots : List Written) (m : Bytes) → first_stray may gots ≡ None → put_got m wide gots ≡ Ok now → put_got (only own m) may gots ≡ Ok (only own now)
+  pub part_put : (gots : List GotRange) (m : Bytes) → stray_range may gots ≡ None → put_got m wide gots ≡ Ok now → put_got (only own m) may gots ≡ Ok (only own now)
   part_put [] m fits puts = ap (λ (r : Result Bytes Span). part_of r) puts
     where
       part_of : Result Bytes Span → Result Bytes Span
@@ -165,7 +165,7 @@ module _ (own may wide : ℕ → Bool) (inside : (a : ℕ) → may a ≡ true �
       (ap (λ (bytes : Bytes). put_got bytes may gots) (sym (with_bytes-only own m g.addr g.bytes passes))
       ∙ part_put gots (with_bytes m g.addr g.bytes) (sym (may_be_put may (g ∷ gots) gots g refl may_first) ∙ fits) (part_on g gots m fits puts))
 
-  pub part_frozen : (gots : List Written) (m : Bytes) → first_stray may gots ≡ None → put_got m wide gots ≡ Ok now → only (λ a. not (may a)) now ≡ only (λ a. not (may a)) m
+  pub part_frozen : (gots : List GotRange) (m : Bytes) → stray_range may gots ≡ None → put_got m wide gots ≡ Ok now → only (λ a. not (may a)) now ≡ only (λ a. not (may a)) m
   part_frozen [] m fits puts = ap (λ (r : Result Bytes Span). only (λ a. not (may a)) (bytes_of_it r)) (sym puts)
     where
       bytes_of_it : Result Bytes Span → Bytes
@@ -177,7 +177,7 @@ module _ (own may wide : ℕ → Bool) (inside : (a : ℕ) → may a ≡ true �
       ∙ with_bytes-beside may m g.addr g.bytes (range_parts may g.addr (length g.bytes) may_first).1
 
 -- who may write no more strays no less
-pub stray_wider : (may wide : ℕ → Bool) → ((a : ℕ) → may a ≡ true → wide a ≡ true) → (gots : List Written) → first_stray may gots ≡ None → first_stray wide gots ≡ None
+pub stray_wider : (may wide : ℕ → Bool) → ((a : ℕ) → may a ≡ true → wide a ≡ true) → (gots : List GotRange) → stray_range may gots ≡ None → stray_range wide gots ≡ None
 stray_wider may wide inside [] fits = refl
 stray_wider may wide inside (g ∷ gots) fits =
     let may_first = first_may may g gots fits in
@@ -194,7 +194,7 @@ writable_own maps a may =
     at_any (λ (x : Mapping). in_range x.range a) maps m.place m.item m.there (both m.item.range.writes (in_range m.item.range a) m.passes).1
 
 -- where nothing strays from a table's part that is written of it
-pub put_own : (table : List PageOwner) (old new : List ℕ) (gots : List Written) → first_stray (owns table true) gots ≡ None → put_got (physical old) (in_pages (length table)) gots ≡ Ok (physical new)
+pub put_own : (table : List PageOwner) (old new : List ℕ) (gots : List GotRange) → stray_range (owns table true) gots ≡ None → put_got (physical old) (in_pages (length table)) gots ≡ Ok (physical new)
     → length new ≡ length old → Put table old new gots
 put_own table old new gots fits puts len = record {
   put = part_put (owns table false) (owns table true) (in_pages (length table)) (own_writable table false) (physical new) gots (physical old) fits puts;

@@ -10,6 +10,6 @@ mod reading;
 mod strings;
 
 pub use laws::strings_law;
-pub use output::{got_len, put, stray_put};
+pub use output::{got_len, put, stray_got};
 pub use reading::{Unread, read_range, read_sent};
 pub use strings::{ProgramStrings, at_zero, program_strings};

@@ -9,7 +9,7 @@ use Rattle.call_log.specs.declared.how.How.TheVariants.{Exit, Signal}
 use Rattle.call_log.specs.declared.how.Seen.{Seen}
 use Rattle.call_log.specs.declared.how.SeenKind.{SeenKind}
 use Rattle.call_log.specs.declared.how.SeenKind.TheVariants as seen
-use Rattle.call_log.specs.Notes.{Written, CallEntry, LoadEntry, Note, call_note, load_note, end_note, stray_note}
+use Rattle.call_log.specs.Notes.{GotRange, CallEntry, LoadEntry, Note, call_note, load_note, end_note, stray_note}
 
 -- the pieces, one behind the other
 abbrev pub joined : List (List ℕ) → List ℕ
@@ -36,11 +36,11 @@ sent_text [] = codes "-"
 sent_text (b ∷ bs) = encode_lower (b ∷ bs)
 
 -- a range that was written, `ADDR:HEX` behind a space
-abbrev pub item_text : Written → List ℕ
+abbrev pub item_text : GotRange → List ℕ
 item_text w = joined (codes " " ∷ word_digits w.addr ∷ codes ":" ∷ encode_lower w.bytes ∷ [])
 
 -- each of them, or `-` where there is none
-abbrev pub got_text : List Written → List ℕ
+abbrev pub got_text : List GotRange → List ℕ
 got_text [] = codes " -"
 got_text (w ∷ ws) = flat_map item_text (w ∷ ws)
 

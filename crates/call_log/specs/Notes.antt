@@ -4,7 +4,7 @@ use Rattle.call_log.specs.declared.how.How.{How}
 use Rattle.call_log.specs.declared.how.Seen.{Seen}
 
 -- bytes that a call wrote into its caller's memory, from an address on
-pub record Written : Type 0 where
+pub record GotRange : Type 0 where
   pub addr : ℕ
   pub bytes : List ℕ
 
@@ -15,7 +15,7 @@ pub record CallEntry : Type 0 where
   pub args : List ℕ
   pub sent : List ℕ
   pub reply : ℕ
-  pub got : List Written
+  pub got : List GotRange
 
 -- a program that begins: its index, its block's first address and pages
 pub record LoadEntry : Type 0 where
@@ -38,7 +38,7 @@ abbrev pub most_bytes : ℕ
 most_bytes = 67108864
 
 -- the bytes that a call's note holds
-abbrev pub weight_of : List ℕ → List Written → ℕ
+abbrev pub weight_of : List ℕ → List GotRange → ℕ
 weight_of sent got = length sent + sum (map (λ w. length w.bytes) got)
 
 abbrev pub calls_in : Note → ℕ

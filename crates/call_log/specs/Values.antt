@@ -4,10 +4,10 @@ use Rattle.call_log.specs.declared.note.Got.{Got}
 use Rattle.call_log.specs.declared.note.Entry.{Entry}
 use Rattle.call_log.specs.declared.note.Note.{Note as Stored}
 use Rattle.call_log.specs.declared.note.Note.TheVariants.{Call, Load, End, Stray}
-use Rattle.call_log.specs.Notes.{Written, CallEntry, Note, call_note, load_note, end_note, stray_note}
+use Rattle.call_log.specs.Notes.{GotRange, CallEntry, Note, call_note, load_note, end_note, stray_note}
 
-abbrev pub written_value : Got → Written
-written_value g = record { addr = g.addr; bytes = g.bytes.items }
+abbrev pub got_value : Got → GotRange
+got_value g = record { addr = g.addr; bytes = g.bytes.items }
 
 abbrev pub entry_value : Entry → CallEntry
 entry_value e = record {
@@ -16,7 +16,7 @@ entry_value e = record {
   args = e.args;
   sent = e.sent.items;
   reply = e.reply;
-  got = map written_value e.got.items;
+  got = map got_value e.got.items;
 }
 
 abbrev pub note_value : Stored → Note

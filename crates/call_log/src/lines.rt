@@ -1,7 +1,7 @@
 //! The line that a note is written as.
 
 ghost use Rattle.std.specs.Prelude.{◌≡◌, [], ◌∷◌, ◌++◌, map, length, codes, decimal, IfOk};
-ghost use Rattle.call_log.specs.Values.{written_value, entry_value, note_value};
+ghost use Rattle.call_log.specs.Values.{got_value, entry_value, note_value};
 ghost use Rattle.std.specs.List.{flat_map};
 ghost use Rattle.call_log.specs.Lines.{joined, word_digits, arg_text, sent_text, item_text, got_text, call_line, load_line, end_line, kind_text, stray_line, line};
 ghost use Rattle.call_log.specs.Programs.{IsProgramBelow, paths_of};
@@ -113,7 +113,7 @@ pub fn push_sent(text: &mut Vec<u8>, bytes: &[u8]) -> Result<(), AllocError>
 
 /// Each range that was written, or `-`, behind a space each.
 pub fn push_got(text: &mut Vec<u8>, got: &[Got]) -> Result<(), AllocError>
-    ensures { IfOk result (λ _. text.new.items ≡ text.old.items ++ got_text (map written_value got.now)) }
+    ensures { IfOk result (λ _. text.new.items ≡ text.old.items ++ got_text (map got_value got.now)) }
 {
     if got.is_empty() {
         return text.extend_from_slice(b" -");
@@ -122,7 +122,7 @@ pub fn push_got(text: &mut Vec<u8>, got: &[Got]) -> Result<(), AllocError>
 }
 
 fn push_items(text: &mut Vec<u8>, got: &[Got]) -> Result<(), AllocError>
-    ensures { IfOk result (λ _. text.new.items ≡ text.old.items ++ flat_map item_text (map written_value got.now)) }
+    ensures { IfOk result (λ _. text.new.items ≡ text.old.items ++ flat_map item_text (map got_value got.now)) }
 {
     for item in got {
         push_item(text, item)?;
@@ -132,7 +132,7 @@ fn push_items(text: &mut Vec<u8>, got: &[Got]) -> Result<(), AllocError>
 
 /// `ADDR:HEX` behind a space.
 fn push_item(text: &mut Vec<u8>, item: &Got) -> Result<(), AllocError>
-    ensures { IfOk result (λ _. text.new.items ≡ text.old.items ++ item_text (written_value item.now)) }
+    ensures { IfOk result (λ _. text.new.items ≡ text.old.items ++ item_text (got_value item.now)) }
 {
     push_arg(text, item.addr)?;
     text.push(b':')?;

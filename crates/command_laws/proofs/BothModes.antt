@@ -2,7 +2,7 @@
 use Rattle.std.proofs.Common.{◌≡◌, ◌≢◌, ℕ, [], Option, Some, None, ◌⊎◌, inl, inr, refl, ap}
 use Rattle.rv32im_step.specs.declared.access.Access.{Access}
 use Rattle.machine_world.specs.Turns.{End, all_ended, stuck, out_of_quanta, stray_at, log_full, turns}
-use Rattle.physical_turns.specs.Physical.{physical_turns, opening as memory_opening}
+use Rattle.physical_turns.specs.Physical.{turns_in, opening_in}
 use Rattle.go_on_laws.proofs.NeverStrays.{runs_never_stray}
 use Rattle.region_watch.specs.declared.mode.Mode.TheVariants.{Halt, GoOn}
 use Rattle.file_commands.specs.declared.status.Status.TheVariants.{Stray}
@@ -40,4 +40,4 @@ no_stray None never = λ h. cc
 pub runs_on_never_stray : RunsOnNeverStray
 runs_on_never_stray name log watch =
     both_run None (Report log watch) (Report log watch) Halt GoOn (λ halts goes. goes.ending.status ≢ Stray) (λ request halts goes other. other) (λ name h. cc) (λ tail h. cc)
-    (λ quanta watches dumps headers w. no_stray (physical_turns quanta (memory_opening headers w)).end (runs_never_stray quanta (memory_opening headers w))) name
+    (λ quanta watches dumps headers w. no_stray (turns_in quanta (opening_in headers w)).end (runs_never_stray quanta (opening_in headers w))) name

@@ -12,7 +12,7 @@ use Rattle.flat_machine.specs.Runs.{repeated}
 use Rattle.region_watch.specs.declared.mode.Mode.{Mode}
 use Rattle.run_setup.specs.Brought.{Brought, FaultAt, nothing_brought, all_brought}
 use Rattle.file_commands.specs.Texts.Refusals.{too_long_at, manifest_tail, line_tail}
-use Rattle.file_commands.specs.Arguments.{Kept}
+use Rattle.file_commands.specs.Arguments.{KeptItems}
 use Rattle.file_commands.specs.Ending.{refused_ending}
 use Rattle.file_commands.specs.Outcome.{Request, load, failure_ending, Outcome, Inputs, after}
 use Rattle.file_commands.specs.Load.{at_once, behind, with_limited, with_load}
@@ -61,7 +61,7 @@ module _ (R : (one other : Outcome) → Type 0) (step : (request : Request) (one
 
   -- ---- and of what comes of the same files
 
-  module _ (kept kept_other : Option Kept) (telling telling_other : Telling) (mode mode_other : Mode)
+  module _ (kept kept_other : Option KeptItems) (telling telling_other : Telling) (mode mode_other : Mode)
       (each : (kind : Kind) (m : Manifest) (files : List (List ℕ)) → R (files_outcome kept telling mode kind m files) (files_outcome kept_other telling_other mode_other kind m files)) where
     both_manifest : (kind : Kind) (r : Result Manifest Fault) (inputs : Inputs) → R (manifest_outcome kept telling mode kind r inputs) (manifest_outcome kept_other telling_other mode_other kind r inputs)
     both_manifest kind (Err first) inputs = refused (manifest_tail first.line first.fault)
@@ -76,7 +76,7 @@ module _ (R : (one other : Outcome) → Type 0) (step : (request : Request) (one
         manifest_limit None name inputs
 
 -- and of two runs from the same opening world, if it holds of what a machine tells
-module _ (kept : Option Kept) (telling telling_other : Telling) (mode mode_other : Mode) (R : (one other : Outcome) → Type 0) (step : (request : Request) (one other : Outcome) → R one other → R (after request one) (after request other))
+module _ (kept : Option KeptItems) (telling telling_other : Telling) (mode mode_other : Mode) (R : (one other : Outcome) → Type 0) (step : (request : Request) (one other : Outcome) → R one other → R (after request one) (after request other))
     (failed : (name : List ℕ) → R (at_once (failure_ending (load name))) (at_once (failure_ending (load name))))
     (refused : (tail : List ℕ) → R (at_once (refused_ending tail)) (at_once (refused_ending tail)))
     (tells : (quanta : List Quantum) (watches : List WatchLine) (dumps : List Dump) (headers : List (List ℕ)) (w : World)

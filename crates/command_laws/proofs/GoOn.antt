@@ -8,7 +8,7 @@ use Rattle.region_watch.specs.Private.{only}
 use Rattle.vfork_exec.specs.Keyed.{find}
 use Rattle.machine_world.specs.World.{LiveSpace, Process, World, pid_of, id_of}
 use Rattle.machine_world.specs.Turns.{End, Walk, all_ended, stuck, out_of_quanta, stray_at, log_full}
-use Rattle.physical_turns.specs.Physical.{Physical, Walk as PhysicalWalk}
+use Rattle.physical_turns.specs.Physical.{Physical, WalkIn}
 use Rattle.physical_turns.proofs.Sub.{span_sub}
 use Rattle.physical_turns.proofs.InMemory.{space_shows}
 use Rattle.physical_turns.proofs.Moves.{found_is_shown}
@@ -43,7 +43,7 @@ module _ (w : World) (p : Physical) (stands : Stands w p) (d : Dump) (bytes : Li
   shown_alike is = shown_of (find pid_of d.pid p.world.procs) refl (ap (λ (v : World). own_bytes v d.pid d.addr d.len) stands.world ∙ is)
 
 -- what the law says of a walk that doesn't end with a stray access, and of one that does
-module _ (private : Walk) (one : PhysicalWalk) where
+module _ (private : Walk) (one : WalkIn) where
   ends_at : (end : Option End) → private.end ≡ end → GoesAlike private.world one end → ((pid : ℕ) (access : Access) → end ≢ Some (stray_at pid access)) → EndsAlike private.world one private.end
   ends_at (Some (stray_at pid access)) is goes never = absurd (never pid access refl)
   ends_at (Some all_ended) is goes never = subst (EndsAlike private.world one) (sym is) goes

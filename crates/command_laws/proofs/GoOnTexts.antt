@@ -7,7 +7,7 @@ use Rattle.manifest_text.specs.declared.manifest.Dump.{Dump}
 use Rattle.vfork_exec.specs.Keyed.{find}
 use Rattle.machine_world.specs.World.{Program, Process, World, pid_of, program_path}
 use Rattle.machine_world.specs.Turns.{End, Walk}
-use Rattle.physical_turns.specs.Physical.{Physical, Walk as PhysicalWalk}
+use Rattle.physical_turns.specs.Physical.{Physical, WalkIn}
 use Rattle.go_on_laws.specs.Alike.{Stands}
 use Rattle.go_on_laws.specs.Laws.{EndsAlike}
 use Rattle.flat_machine.specs.OwnBytes.{own_bytes, bytes_for, memory_bytes}
@@ -43,7 +43,7 @@ module _ (w : World) (p : Physical) (stands : Stands w p) (d : Dump) where
 
 -- ---- reports
 
-module _ (log : Bool) (hits : List ℕ) (dumps : List Dump) (private : Walk) (one : PhysicalWalk) where
+module _ (log : Bool) (hits : List ℕ) (dumps : List Dump) (private : Walk) (one : WalkIn) where
   pub reports_alike : EndsAlike private.world one private.end
       → ReportsAlike private.world one.now hits dumps (report_text log (hits ++ own_dumps private.world dumps) private.world private.end) (report_text log (hits ++ memory_dumps one.now dumps) one.now.world one.end)
   unfolding report_text

@@ -16,12 +16,12 @@ use Rattle.vfork_exec.specs.Keyed.{find}
 use Rattle.machine_world.specs.World.{Process, LiveSpace, World, pid_of, id_of}
 use Rattle.machine_world.specs.Families.{MayRun, ready_pids}
 use Rattle.machine_world.specs.Event.{Trace, Outcome, went, strays, full, idle, effect, in_space, by_process, at_process, stray_in, event}
-use Rattle.machine_world.specs.Turns.{End, Walk, stray_at, stays_at, traced, turn, going_on, quantum_turn, turns}
+use Rattle.machine_world.specs.Turns.{End, Walk, stray_at, remains_at, traced, turn, going_on, quantum_turn, turns}
 use Rattle.machine_world.proofs.Runnable.{may_run_still, ready_found}
 use Rattle.machine_world.proofs.TurnLaws.{turn_next}
 use Rattle.stays_laws.specs.Sound.{IsSound}
 use Rattle.stays_laws.proofs.SoundRuns.{events_keep_sound, turns_keep_sound}
-use Rattle.physical_turns.specs.Physical.{Physical, After, after as moves, no_room, nobody, in_memory, carried_out, has_stray, physical_event, Walk as PhysicalWalk, physical_turn}
+use Rattle.physical_turns.specs.Physical.{Physical, After, after as moves, no_room, nobody, in_memory, carried_out, has_stray, event_in, WalkIn, turn_in}
 use Rattle.physical_turns.specs.Wider.{IsWithin, Widens}
 use Rattle.physical_turns.proofs.Widened.{wide_meaning}
 use Rattle.go_on_laws.specs.Alike.{Stands}
@@ -118,9 +118,9 @@ module _ (kind : PointKind) (spans : List Span) (pid : ℕ) (w : World) (p : Phy
       subst (λ (v : World). IsSound v → Stands v p → event v pid ≡ o → hits_in kind spans pid (event_asked v pid) ≡ hits_in kind spans pid (event_asked_in p pid)) stands.world
       (λ sound stands is. event_alike kind spans pid p sound stands (λ access strays. calm_never o none access (sym is ∙ strays))) sound stands is
 
-  nobody_there : event w pid ≡ idle → physical_event p pid ≡ nobody
+  nobody_there : event w pid ≡ idle → event_in p pid ≡ nobody
   nobody_there is =
-      subst (λ (v : World). IsSound v → Stands v p → event v pid ≡ idle → physical_event p pid ≡ nobody) stands.world
+      subst (λ (v : World). IsSound v → Stands v p → event v pid ≡ idle → event_in p pid ≡ nobody) stands.world
       (λ s h e. calm p pid idle e refl ∙ subst (λ (o : Outcome). Goes p o (carried_out p pid)) e (goes_event p s h pid)) sound stands is
 
 -- ---- a turn
@@ -134,14 +134,14 @@ module _ (pid : ℕ) (w : World) (now : World) (t : Trace) (is : event w pid ≡
   unfolding turn
   one_turn = turn_next pid w 0 (went now t) is ∙ by t.over
     where
-      by : (over : Bool) → traced t (if over then stays_at now None else turn 0 pid now) ≡ record { world = now; traces = t ∷ []; end = None }
+      by : (over : Bool) → traced t (if over then remains_at now None else turn 0 pid now) ≡ record { world = now; traces = t ∷ []; end = None }
       by true = refl
       by false = refl
 
   still_unstrayed : (p : Physical) → IsSound w → MayRun w pid → Stands w p → has_stray w.notes ≡ false → has_stray now.notes ≡ false
   still_unstrayed p sound may stands none =
-      let alike : EndsAlike now (physical_turn 1 pid p) None =
-      subst (λ (walk : Walk). GoesAlike walk.world (physical_turn 1 pid p) walk.end) one_turn (turns_go_on 1 pid w p sound may stands none) in
+      let alike : EndsAlike now (turn_in 1 pid p) None =
+      subst (λ (walk : Walk). GoesAlike walk.world (turn_in 1 pid p) walk.end) one_turn (turns_go_on 1 pid w p sound may stands none) in
       alike.unstrayed
 
   end_on : (n : ℕ) → t.over ≡ false → (turn (suc n) pid w).end ≡ (turn n pid now).end
@@ -155,7 +155,7 @@ module _ (kind : PointKind) (spans : List Span) (pid : ℕ) where
   T_in = turn_hits_in kind spans pid
 
   -- an event more
-  next_alike : (n : ℕ) (w : World) (p : Physical) → IsSound w → Stands w p → (o : Outcome) (a : After) → event w pid ≡ o → IsCalm o → physical_event p pid ≡ a
+  next_alike : (n : ℕ) (w : World) (p : Physical) → IsSound w → Stands w p → (o : Outcome) (a : After) → event w pid ≡ o → IsCalm o → event_in p pid ≡ a
       → behind (T n) o ≡ behind_in (T_in n) a → T (suc n) w ≡ T_in (suc n) p
   next_alike n w p sound stands o a is none comes same =
       hits_next kind spans pid n w o is
@@ -196,7 +196,7 @@ module _ (kind : PointKind) (spans : List Span) (turns_on : World → Walk) (mor
       by None never = λ pid access is. cc
       by (Some end) never = never
 
-  behind_alike : (walk : Walk) (here : PhysicalWalk) → IsSound walk.world → EndsAlike walk.world here walk.end → Never (going_on turns_on walk).end
+  behind_alike : (walk : Walk) (here : WalkIn) → IsSound walk.world → EndsAlike walk.world here walk.end → Never (going_on turns_on walk).end
       → behind_turn more walk.world walk.end ≡ behind_turn_in more_in here.now here.end
   behind_alike walk here sound alike never =
       by walk.end alike.ends never
@@ -211,7 +211,7 @@ module _ (kind : PointKind) (spans : List Span) (turns_on : World → Walk) (mor
   quantum_alike p count (Some pid) sound stands none may never =
       let runs = may pid refl in
       let walk = turn count pid p.world in
-      let here = physical_turn count pid p in
+      let here = turn_in count pid p in
       let calms = walk_never walk never in
       let alike = ends_alike walk here (turns_go_on count pid p.world p sound runs stands none) calms in
       ap (λ (xs : List Hit). xs ++ behind_turn more walk.world walk.end) (turn_alike kind spans pid count p.world p sound runs stands none calms)

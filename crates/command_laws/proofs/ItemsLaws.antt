@@ -13,7 +13,7 @@ use Rattle.machine_world.specs.World.{Launch, Recording, World}
 use Rattle.machine_world.specs.Recordings.{is_kept, most_count}
 use Rattle.machine_world.specs.Boot.{empty_world}
 use Rattle.machine_world.specs.Turns.{turns}
-use Rattle.stays_laws.specs.Stays.{Stay, stays, first_stays}
+use Rattle.stays_laws.specs.Stays.{Stay, stays_along, first_stays}
 use Rattle.stays_laws.proofs.Lists.{eqb_same}
 use Rattle.recording_laws.specs.Items.{with_lists, launch_in, AreRecorded}
 use Rattle.recording_laws.specs.Homes.{calls_at}

@@ -14,7 +14,7 @@ use Rattle.machine_world.specs.Recordings.{nothing_recorded, launched}
 use Rattle.region_watch.specs.declared.mode.Mode.TheVariants.{Halt}
 use Rattle.flat_machine.specs.Runs.{repeated}
 use Rattle.run_setup.specs.Brought.{Brought, FaultAt, nothing_brought, all_brought}
-use Rattle.file_commands.specs.Arguments.{Kept}
+use Rattle.file_commands.specs.Arguments.{KeptItems}
 use Rattle.file_commands.specs.Outcome.{Request, Outcome, after}
 use Rattle.watch_points.specs.declared.point.PointKind.{PointKind}
 use Rattle.suite_top.specs.declared.telling.Telling.TheVariants.{Report}
@@ -79,7 +79,7 @@ boots_alike keep kind m b = all_alike (map start_line m.starts) keep (nothing_re
 
 -- ---- of a run
 
-module _ (kept : Kept) (log : Bool) (watch : Option PointKind) where
+module _ (kept : KeptItems) (log : Bool) (watch : Option PointKind) where
   booted_alike : (m : Manifest) (headers : List (List ℕ)) (one other : Result World BootFault) → BootAlike one other
       → EndsAlike (booted_outcome None (Report log watch) Halt m headers one) (booted_outcome (Some kept) (Report log watch) Halt m headers other)
   booted_alike m headers (Ok w) (Ok v) alike =

@@ -10,7 +10,7 @@ use Rattle.machine_world.specs.World.{Process, Rest, World}
 use Rattle.machine_world.specs.Asks.{Ask, Row, replies, waits}
 use Rattle.machine_world.specs.Families.{ready_pids}
 use Rattle.machine_world.specs.Event.{Trace, Outcome, went, strays, full, idle, ended, ask_of, event}
-use Rattle.machine_world.specs.Turns.{Walk, End, stays_at, traced, turned, turn, going_on, quantum_turn, turns}
+use Rattle.machine_world.specs.Turns.{Walk, End, remains_at, traced, turned, turn, going_on, quantum_turn, turns}
 use Rattle.machine_world.specs.Rows.{row}
 use Rattle.machine_world.proofs.Kept.{Answers}
 use Rattle.machine_world.proofs.ByEvents.{Answered, Happened, Keeps, Went, by_event, by_turns}
@@ -90,7 +90,7 @@ turn_adds (suc count) pid w = by (λ v. turn_adds count pid v) (event w pid) (ev
     by : ((v : World) → (turn count pid v).world.events ≤ v.events + count) → (o : Outcome) → Went (OneMore w) o → (turned (turn count pid) w pid o).world.events ≤ w.events + suc count
     by rest (went now t) h = over t.over
       where
-        over : (b : Bool) → (traced t (if b then stays_at now None else turn count pid now)).world.events ≤ w.events + suc count
+        over : (b : Bool) → (traced t (if b then remains_at now None else turn count pid now)).world.events ≤ w.events + suc count
         over true = let most : now.events ≤ w.events + suc count = omega (arith, h) in most
         over false = let more = rest now in let most : (turn count pid now).world.events ≤ w.events + suc count = omega (arith, h, more) in most
     by rest (strays access) h = none_more w (suc count)

@@ -12,7 +12,7 @@ use Rattle.region_watch.specs.declared.mode.Mode.{Mode}
 use Rattle.flat_machine.specs.Runs.{repeated}
 use Rattle.file_commands.specs.Texts.Refusals.{too_long_at}
 use Rattle.suite_top.specs.declared.telling.Telling.{Telling}
-use Rattle.file_commands.specs.Arguments.{Kept}
+use Rattle.file_commands.specs.Arguments.{KeptItems}
 use Rattle.file_commands.specs.Ending.{refused_ending}
 use Rattle.file_commands.specs.Outcome.{Request, load, Outcome, Inputs, after}
 use Rattle.file_commands.specs.Load.{at_once, behind, with_limited, with_load}
@@ -64,7 +64,7 @@ items_there inputs left (item ∷ items) (file ∷ files) rest there =
     by_kind false is more = ap (λ bytes. next bytes inputs) (sym is) ∙ more
 
 -- of a run and of a demo
-pub runs_where_booted : (kept : Option Kept) (telling : Telling) (mode : Mode) (kind : Kind) (m : Manifest) (files : List (List ℕ)) (b : Booted (keep_of kept) kind m files)
+pub runs_where_booted : (kept : Option KeptItems) (telling : Telling) (mode : Mode) (kind : Kind) (m : Manifest) (files : List (List ℕ)) (b : Booted (keep_of kept) kind m files)
     → files_outcome kept telling mode kind m files ≡ mode_outcome kept telling mode (repeated m.repeat m.quanta) m.watches m.dumps b.brought.headers b.world
 unfolding files_outcome
 runs_where_booted kept telling mode kind m files b =
@@ -111,21 +111,21 @@ items_within inputs left (item ∷ items) rest stop =
     let (files, there, last) = items_within (behind_item (has_file item.kind) inputs) (left - length file) items (λ files. rest (file ∷ files)) more in
     (file ∷ files, (is, there), last)
 
-ok_manifest : (inputs : Inputs) (kept : Option Kept) (telling : Telling) (mode : Mode) (kind : Kind) (r : Result Manifest Fault) → IsStop (manifest_outcome kept telling mode kind r inputs).ending.status
+ok_manifest : (inputs : Inputs) (kept : Option KeptItems) (telling : Telling) (mode : Mode) (kind : Kind) (r : Result Manifest Fault) → IsStop (manifest_outcome kept telling mode kind r inputs).ending.status
     → (m : Manifest) × (r ≡ Ok m) × IsStop (items_outcome kept telling mode kind m inputs).ending.status
 ok_manifest inputs kept telling mode kind (Err fault) stop = absurd stop
 ok_manifest inputs kept telling mode kind (Ok m) stop = (m, refl, stop)
 
-ok_brought : (kept : Option Kept) (telling : Telling) (mode : Mode) (kind : Kind) (m : Manifest) (r : Result Brought FaultAt) → IsStop (brought_outcome kept telling mode kind m r).ending.status
+ok_brought : (kept : Option KeptItems) (telling : Telling) (mode : Mode) (kind : Kind) (m : Manifest) (r : Result Brought FaultAt) → IsStop (brought_outcome kept telling mode kind m r).ending.status
     → (b : Brought) × (r ≡ Ok b) × IsStop (booted_outcome kept telling mode m b.headers (boot (opening (keep_of kept) kind m b) (map start_line m.starts))).ending.status
 ok_brought kept telling mode kind m (Err at) stop = absurd stop
 ok_brought kept telling mode kind m (Ok b) stop = (b, refl, stop)
 
-ok_world : (kept : Option Kept) (telling : Telling) (mode : Mode) (m : Manifest) (headers : List (List ℕ)) (r : Result World BootFault) → IsStop (booted_outcome kept telling mode m headers r).ending.status → (w : World) × (r ≡ Ok w)
+ok_world : (kept : Option KeptItems) (telling : Telling) (mode : Mode) (m : Manifest) (headers : List (List ℕ)) (r : Result World BootFault) → IsStop (booted_outcome kept telling mode m headers r).ending.status → (w : World) × (r ≡ Ok w)
 ok_world kept telling mode m headers (Err fault) stop = absurd stop
 ok_world kept telling mode m headers (Ok w) stop = (w, refl)
 
-pub booted_where_it_stops : (kept : Option Kept) (telling : Telling) (mode : Mode) (kind : Kind) (m : Manifest) (files : List (List ℕ)) → IsStop (files_outcome kept telling mode kind m files).ending.status → Booted (keep_of kept) kind m files
+pub booted_where_it_stops : (kept : Option KeptItems) (telling : Telling) (mode : Mode) (kind : Kind) (m : Manifest) (files : List (List ℕ)) → IsStop (files_outcome kept telling mode kind m files).ending.status → Booted (keep_of kept) kind m files
 unfolding files_outcome
 booted_where_it_stops kept telling mode kind m files stop =
     let (brought, brings, boots_on) = ok_brought kept telling mode kind m (all_brought m.items files nothing_brought) stop in

@@ -3,7 +3,7 @@ use Rattle.std.proofs.Common.{◌≡◌, ℕ, Bool, List, [], ◌++◌, Option, 
 use Rattle.std.proofs.lemmas.List.{append_assoc}
 use Rattle.machine_world.specs.World.{World}
 use Rattle.machine_world.specs.Turns.{End, turns}
-use Rattle.physical_turns.specs.Physical.{physical_turns, opening as memory_opening}
+use Rattle.physical_turns.specs.Physical.{turns_in, opening_in}
 use Rattle.region_watch.specs.declared.mode.Mode.{Mode}
 use Rattle.region_watch.specs.declared.mode.Mode.TheVariants.{Halt, GoOn}
 use Rattle.quantum_sched.specs.declared.Quantum.{Quantum}
@@ -11,7 +11,7 @@ use Rattle.manifest_text.specs.declared.manifest.Dump.{Dump}
 use Rattle.manifest_text.specs.declared.manifest.WatchLine.{WatchLine}
 use Rattle.watch_points.specs.declared.point.PointKind.{PointKind}
 use Rattle.page_runs.specs.declared.place.Kind.{Kind}
-use Rattle.file_commands.specs.Arguments.{Kept}
+use Rattle.file_commands.specs.Arguments.{KeptItems}
 use Rattle.file_commands.specs.Outcome.{Outcome, Inputs}
 use Rattle.suite_top.specs.declared.telling.Telling.TheVariants.{Report}
 use Rattle.suite_top.specs.Report.{own_dumps, memory_dumps, notes_text, report_text, stop_word, stop_line}
@@ -28,14 +28,14 @@ use Rattle.command_laws.proofs.TraceLaws.{same, alike_after}
 
 -- ---- the same but for the report
 
-module _ (kept : Option Kept) (log : Bool) (point : PointKind) where
+module _ (kept : Option KeptItems) (log : Bool) (point : PointKind) where
   ends_alike : (mode : Mode) (quanta : List Quantum) (watches : List WatchLine) (dumps : List Dump) (headers : List (List ℕ)) (w : World)
       → IsAsRun (mode_outcome kept (Report log (Some point)) mode quanta watches dumps headers w) (mode_outcome kept (Report log None) mode quanta watches dumps headers w)
   ends_alike Halt quanta watches dumps headers w =
       let walk = turns quanta w in
       record { requests = refl; status = refl; out = refl; early = inl (told_status IsStop tt tt tt tt tt (Report log None) [] walk.world walk.end) }
   ends_alike GoOn quanta watches dumps headers w =
-      let walk = physical_turns quanta (memory_opening headers w) in
+      let walk = turns_in quanta (opening_in headers w) in
       record { requests = refl; status = refl; out = refl; early = inl (told_status IsStop tt tt tt tt tt (Report log None) [] walk.now.world walk.end) }
 
 pub watches_are_runs : WatchesAreRuns
@@ -62,7 +62,7 @@ has_more log lines dumped w end =
 more_is : (start lines one other without_it with_it : List ℕ) → one ≡ without_it → other ≡ with_it → HasMore start lines without_it with_it → HasMore start lines one other
 more_is start lines one other without_it with_it is has more = record { rest = more.rest; without = is ∙ more.without; has = has ∙ more.has }
 
-module _ (log : Bool) (point : PointKind) {inputs : Inputs} {name : List ℕ} {kind : Kind} (kept : Option Kept) (o : Opens inputs name (keep_of kept) kind) where
+module _ (log : Bool) (point : PointKind) {inputs : Inputs} {name : List ℕ} {kind : Kind} (kept : Option KeptItems) (o : Opens inputs name (keep_of kept) kind) where
   tells_more : (mode : Mode) → HasMore (notes_text log (world_behind mode o)) (hit_lines mode point o) (opened_outcome kept (Report log None) mode o).ending.report (opened_outcome kept (Report log (Some point)) mode o).ending.report
   tells_more Halt = let walk = halting o in has_more log (hit_lines Halt point o) (own_dumps walk.world o.manifest.dumps) walk.world walk.end
   tells_more GoOn = let walk = going_on o in has_more log (hit_lines GoOn point o) (memory_dumps walk.now o.manifest.dumps) walk.now.world walk.end

@@ -8,7 +8,7 @@ use Rattle.vfork_exec.specs.Keyed.{find}
 use Rattle.machine_world.specs.World.{Process, World, pid_of}
 use Rattle.machine_world.specs.Turns.{Walk, stray_at}
 use Rattle.machine_world.specs.Order.{IsInOrder}
-use Rattle.physical_turns.specs.Physical.{Physical, Walk as PhysicalWalk, physical_turns, opening as memory_opening}
+use Rattle.physical_turns.specs.Physical.{Physical, WalkIn, turns_in, opening_in}
 use Rattle.go_on_laws.specs.Laws.{GoesPast}
 use Rattle.memory_refusals.specs.Regular.{IsRegularIn}
 use Rattle.region_watch.specs.declared.mode.Mode.TheVariants.{Halt, GoOn}
@@ -28,20 +28,20 @@ use Rattle.command_laws.specs.RunLaws.{Opens, opened_outcome, IsStop}
 abbrev pub halting : {inputs : Inputs} {name : List ℕ} {keep : ℕ} {kind : Kind} → Opens inputs name keep kind → Walk
 halting o = booted_turns o.booted
 
-abbrev pub going_on : {inputs : Inputs} {name : List ℕ} {keep : ℕ} {kind : Kind} → Opens inputs name keep kind → PhysicalWalk
-going_on o = physical_turns (repeated o.manifest.repeat o.manifest.quanta) (memory_opening o.booted.brought.headers o.booted.world)
+abbrev pub going_on : {inputs : Inputs} {name : List ℕ} {keep : ℕ} {kind : Kind} → Opens inputs name keep kind → WalkIn
+going_on o = turns_in (repeated o.manifest.repeat o.manifest.quanta) (opening_in o.booted.brought.headers o.booted.world)
 
 -- ---- the worlds
 
 -- where nothing strays the world and the end are the same; bytes that are all own are shown by both
-pub record RunsAlike (private : Walk) (one : PhysicalWalk) : Type 0 where
+pub record RunsAlike (private : Walk) (one : WalkIn) : Type 0 where
   pub world : one.now.world ≡ private.world
   pub end : one.end ≡ private.end
   pub shown : (d : Dump) (bytes : List ℕ) → own_bytes private.world d.pid d.addr d.len ≡ Some bytes → memory_bytes one.now d.pid d.addr d.len ≡ Some bytes
 
 -- and where they end with a stray access, that is the first one that is noted, and all notes up to it, and all that was written to the
 -- console, stand before what came later
-pub record GoesOnWell (private : Walk) (one : PhysicalWalk) : Type 0 where
+pub record GoesOnWell (private : Walk) (one : WalkIn) : Type 0 where
   pub alike : ((pid : ℕ) (access : Access) → private.end ≢ Some (stray_at pid access)) → RunsAlike private one
   pub past : (pid : ℕ) (access : Access) → private.end ≡ Some (stray_at pid access) → GoesPast private.world one pid access
 
@@ -50,7 +50,7 @@ RunsGoOnWell = (inputs : Inputs) (name : List ℕ) (keep : ℕ) (kind : Kind) (o
 
 -- the one memory of such a run behind some quanta, before the first stray access and behind it
 abbrev pub memory_behind : {inputs : Inputs} {name : List ℕ} {keep : ℕ} {kind : Kind} → Opens inputs name keep kind → List Quantum → Physical
-memory_behind o quanta = (physical_turns quanta (memory_opening o.booted.brought.headers o.booted.world)).now
+memory_behind o quanta = (turns_in quanta (opening_in o.booted.brought.headers o.booted.world)).now
 
 -- its nodes are a tree of names, and all counts of what is open are exact
 abbrev pub MemoryIsInOrder : Type 0
@@ -74,7 +74,7 @@ halting_hits log watch o = world_hits (Report log watch) (repeated o.manifest.re
 
 abbrev pub going_on_hits : {inputs : Inputs} {name : List ℕ} {keep : ℕ} {kind : Kind} → (log : Bool) → (watch : Option PointKind) → Opens inputs name keep kind → List ℕ
 going_on_hits log watch o =
-    memory_hits (Report log watch) (repeated o.manifest.repeat o.manifest.quanta) o.manifest.watches (memory_opening o.booted.brought.headers o.booted.world)
+    memory_hits (Report log watch) (repeated o.manifest.repeat o.manifest.quanta) o.manifest.watches (opening_in o.booted.brought.headers o.booted.world)
 
 -- a dump of a process that lives, of bytes that lie in memory and aren't all own
 pub record ShowsMore (private : World) (one : Physical) (d : Dump) : Type 0 where

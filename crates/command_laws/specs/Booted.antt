@@ -10,7 +10,7 @@ use Rattle.machine_world.specs.Order.{IsInOrder}
 use Rattle.vfork_exec.specs.Keyed.{find}
 use Rattle.waits_laws.specs.Waits.{WaitsWell}
 use Rattle.waits_laws.specs.Laws.{WaitsOrLent}
-use Rattle.stays_laws.specs.Stays.{Stay, AreRight, stays, first_stays}
+use Rattle.stays_laws.specs.Stays.{Stay, AreRight, stays_along, first_stays}
 use Rattle.end_laws.specs.Laws.{EndsAreTold}
 use Rattle.refusal_laws.specs.Regular.{IsRegularWorld}
 use Rattle.flat_machine.specs.Runs.{repeated}
@@ -38,7 +38,7 @@ module _ {keep : ℕ} {kind : Kind} {m : Manifest} {files : List (List ℕ)} (b 
 
   -- the stays of the start lines, along the turns: of an elf line's program the image is that of its ELF file
   abbrev pub booted_stays : List Stay
-  booted_stays = stays (first_stays (empty_world (opening keep kind m b.brought)) (map start_line m.starts)) b.world (repeated m.repeat m.quanta)
+  booted_stays = stays_along (first_stays (empty_world (opening keep kind m b.brought)) (map start_line m.starts)) b.world (repeated m.repeat m.quanta)
 
   -- what each process does is what its program does alone, under the replies that it had
   abbrev pub DoesAsAlone : Type 0

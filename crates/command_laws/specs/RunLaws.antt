@@ -8,7 +8,7 @@ use Rattle.flat_machine.specs.Runs.{repeated}
 use Rattle.file_commands.specs.declared.status.Status.{Status}
 use Rattle.file_commands.specs.declared.status.Status.TheVariants.{Done, HostRead, Refused, Stray, OutOfQuanta, LogFull, Stuck}
 use Rattle.suite_top.specs.declared.telling.Telling.{Telling}
-use Rattle.file_commands.specs.Arguments.{Kept}
+use Rattle.file_commands.specs.Arguments.{KeptItems}
 use Rattle.file_commands.specs.Ending.{Ending}
 use Rattle.file_commands.specs.Outcome.{load, Outcome, Inputs}
 use Rattle.file_commands.specs.Load.{behind}
@@ -48,7 +48,7 @@ pub record Opens (inputs : Inputs) (name : List ℕ) (keep : ℕ) (kind : Kind) 
 
 -- the manifest is asked for, then the file of each line that has one, in order; and the turns from that world, or, of a run that goes on,
 -- those over one memory, give the texts, and the items that are stored, if they are kept
-abbrev pub opened_outcome : {inputs : Inputs} {name : List ℕ} {kind : Kind} (kept : Option Kept) → Telling → Mode → Opens inputs name (keep_of kept) kind → Outcome
+abbrev pub opened_outcome : {inputs : Inputs} {name : List ℕ} {kind : Kind} (kept : Option KeptItems) → Telling → Mode → Opens inputs name (keep_of kept) kind → Outcome
 opened_outcome {name = name} kept telling mode o =
     let quanta = repeated o.manifest.repeat o.manifest.quanta in
     record {
@@ -66,12 +66,12 @@ IsStop Stuck = Unit {0}
 IsStop other = ⊥
 
 abbrev pub RunsWhereItOpens : Type 0
-RunsWhereItOpens = (inputs : Inputs) (name : List ℕ) (kept : Option Kept) (telling : Telling) (mode : Mode) (kind : Kind) (o : Opens inputs name (keep_of kept) kind)
+RunsWhereItOpens = (inputs : Inputs) (name : List ℕ) (kept : Option KeptItems) (telling : Telling) (mode : Mode) (kind : Kind) (o : Opens inputs name (keep_of kept) kind)
     → run_outcome name kept telling mode kind inputs ≡ opened_outcome kept telling mode o
 
 -- and in no other case a run ends with one of these
 abbrev pub OpensWhereItStops : Type 0
-OpensWhereItStops = (inputs : Inputs) (name : List ℕ) (kept : Option Kept) (telling : Telling) (mode : Mode) (kind : Kind)
+OpensWhereItStops = (inputs : Inputs) (name : List ℕ) (kept : Option KeptItems) (telling : Telling) (mode : Mode) (kind : Kind)
     → IsStop (run_outcome name kept telling mode kind inputs).ending.status → Opens inputs name (keep_of kept) kind
 
 -- it ends early: a load failed, or something was refused, and nothing goes to `out`
@@ -80,7 +80,7 @@ IsEarly ending = (ending.out ≡ []) × ((ending.status ≡ HostRead) ⊎ (endin
 
 -- a run reaches its machine or ends early, whatever its files are
 abbrev pub RunsStopOrEndEarly : Type 0
-RunsStopOrEndEarly = (name : List ℕ) (kept : Option Kept) (telling : Telling) (mode : Mode) (kind : Kind) (inputs : Inputs)
+RunsStopOrEndEarly = (name : List ℕ) (kept : Option KeptItems) (telling : Telling) (mode : Mode) (kind : Kind) (inputs : Inputs)
     → IsStop (run_outcome name kept telling mode kind inputs).ending.status ⊎ IsEarly (run_outcome name kept telling mode kind inputs).ending
 
 -- ---- what is said of each run from its opening world on

@@ -5,11 +5,11 @@ use Rattle.region_watch.specs.declared.mode.Mode.{Mode}
 use Rattle.region_watch.specs.declared.mode.Mode.TheVariants.{Halt, GoOn}
 use Rattle.watch_points.specs.declared.point.PointKind.{PointKind}
 use Rattle.machine_world.specs.World.{World}
-use Rattle.physical_turns.specs.Physical.{opening as memory_opening}
+use Rattle.physical_turns.specs.Physical.{opening_in}
 use Rattle.flat_machine.specs.Runs.{repeated}
 use Rattle.flat_machine.specs.Hits.{hits, hits_in_memory}
 use Rattle.file_commands.specs.Outcome.{Inputs}
-use Rattle.file_commands.specs.Arguments.{Kept, run}
+use Rattle.file_commands.specs.Arguments.{KeptItems, run}
 use Rattle.suite_top.specs.Kept.{keep_of}
 use Rattle.suite_top.specs.Report.{notes_text}
 use Rattle.suite_top.specs.Watched.{watched_text}
@@ -20,7 +20,7 @@ use Rattle.command_laws.specs.Beside.{halting, going_on}
 
 -- whatever is watched, and whether items are kept or not
 abbrev pub WatchesAreRuns : Type 0
-WatchesAreRuns = (manifest : List ℕ) (log : Bool) (mode : Mode) (kind : Kind) (kept : Option Kept) (point : PointKind) (inputs : Inputs)
+WatchesAreRuns = (manifest : List ℕ) (log : Bool) (mode : Mode) (kind : Kind) (kept : Option KeptItems) (point : PointKind) (inputs : Inputs)
     → IsAsRun (command_outcome (Some (run manifest log mode kind kept (Some point))) inputs) (command_outcome (Some (run manifest log mode kind kept None)) inputs)
 
 -- the world that its notes are told of
@@ -34,7 +34,7 @@ abbrev pub hit_lines : {inputs : Inputs} {name : List ℕ} {keep : ℕ} {kind : 
 hit_lines Halt point o = watched_text (Some point) o.manifest.watches (λ kind spans. hits kind spans (repeated o.manifest.repeat o.manifest.quanta) o.booted.world)
 hit_lines GoOn point o =
     watched_text (Some point) o.manifest.watches
-    (λ kind spans. hits_in_memory kind spans (repeated o.manifest.repeat o.manifest.quanta) (memory_opening o.booted.brought.headers o.booted.world))
+    (λ kind spans. hits_in_memory kind spans (repeated o.manifest.repeat o.manifest.quanta) (opening_in o.booted.brought.headers o.booted.world))
 
 -- a text that has some lines more than another one, behind the start that both have
 pub record HasMore (start lines without_it with_it : List ℕ) : Type 0 where
@@ -44,7 +44,7 @@ pub record HasMore (start lines without_it with_it : List ℕ) : Type 0 where
 
 -- where the machine is reached, the report has just these lines more, behind the notes
 abbrev pub WatchesTellHits : Type 0
-WatchesTellHits = (inputs : Inputs) (manifest : List ℕ) (log : Bool) (mode : Mode) (kind : Kind) (kept : Option Kept) (point : PointKind) (o : Opens inputs manifest (keep_of kept) kind)
+WatchesTellHits = (inputs : Inputs) (manifest : List ℕ) (log : Bool) (mode : Mode) (kind : Kind) (kept : Option KeptItems) (point : PointKind) (o : Opens inputs manifest (keep_of kept) kind)
     → HasMore (notes_text log (world_behind mode o)) (hit_lines mode point o)
     (command_outcome (Some (run manifest log mode kind kept None)) inputs).ending.report
     (command_outcome (Some (run manifest log mode kind kept (Some point))) inputs).ending.report

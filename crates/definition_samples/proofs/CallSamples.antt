@@ -3,7 +3,7 @@ use Rattle.std.proofs.Common.{◌≡◌, ℕ, Bool, true, List, [], ◌∷◌, �
 use Rattle.std.specs.Prelude.{replicate, codes, false}
 use Rattle.page_runs.specs.declared.place.Kind.TheVariants.{First}
 use Rattle.call_log.specs.Errno.{refusal}
-use Rattle.call_log.specs.Notes.{Written}
+use Rattle.call_log.specs.Notes.{GotRange}
 use Rattle.mem_files.specs.Inodes.{Inodes, file, folder, new_inode}
 use Rattle.fd_tables.specs.declared.view.Target.TheVariants.{Console}
 use Rattle.fd_tables.specs.declared.view.View.{View}
@@ -51,7 +51,7 @@ reading number a b c sent = row (ask rest number (a ∷ b ∷ c ∷ []) sent)
 -- what a call is answered and gives, whether the turn is over, and the break
 pub record Seen : Type 0 where
   pub value : ℕ
-  pub got : List Written
+  pub got : List GotRange
   pub over : Bool
   pub brk : ℕ
 

@@ -113,7 +113,7 @@ counted = record {
   uses = uses;
   used = used;
   holds = holds;
-  stays = stays;
+  remains = stays;
   whole = whole;
   read_ends = λ id. (ends id).0;
   write_ends = λ id. (ends id).1;
@@ -135,7 +135,7 @@ refuted-holds c = let is : 0 ≡ 1 = c.holds 2 in omega (arith, is)
 
 -- a node that no folder names and no open file holds, and that is still there
 refuted-stays : Counted (record { nodes = nodes ++ Some (record (new_inode (file []) None) { linked = false }) ∷ []; files = open_files }) → ⊥
-refuted-stays c = let is : None ≡ Some (record (new_inode (file []) None) { linked = false }) = c.stays 3 in cc
+refuted-stays c = let is : None ≡ Some (record (new_inode (file []) None) { linked = false }) = c.remains 3 in cc
 
 -- a pipe of which an end is shown as open, and no open file is it
 refuted-ends : Counted (record { nodes = nodes; files = record open_files { pipes = record { id = 1; bytes = []; read_open = true; write_open = true } ∷ [] } }) → ⊥

@@ -4,7 +4,7 @@ use Rattle.std.specs.Prelude.{replicate, codes, false}
 use Rattle.rv32im_step.specs.declared.regs.Regs.{Regs}
 use Rattle.rv32im_step.specs.Registers.{register, with_register}
 use Rattle.call_log.specs.declared.how.How.TheVariants.{Exit}
-use Rattle.call_log.specs.Notes.{CallEntry, Written, call_note, load_note, has_room}
+use Rattle.call_log.specs.Notes.{CallEntry, GotRange, call_note, load_note, has_room}
 use Rattle.mmap_rules.specs.Space.{writable_in, may_use}
 use Rattle.flat_loader.specs.Original.{block_pages}
 use Rattle.flat_loader.specs.Frame.{frame_len, frame_start}
@@ -39,7 +39,7 @@ two at options gone = world (process 3 1 1 Ready ∷ caller at options ∷ []) g
 abbrev waits : (at options : ℕ) → List Ended → Outcome
 waits at options gone = waitid (two at options gone) (ask_of (two at options gone) (caller at options) (space 0 0).space [])
 
-abbrev entry : (at options reply : ℕ) → List Written → CallEntry
+abbrev entry : (at options reply : ℕ) → List GotRange → CallEntry
 entry at options reply got = record { pid = 1; call = 95; args = asks at options; sent = []; reply = reply; got = got }
 
 abbrev item : CallEntry → Item

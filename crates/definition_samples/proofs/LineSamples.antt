@@ -6,7 +6,7 @@ use Rattle.hex.specs.Hex.{encode_with}
 use Rattle.call_log.specs.declared.how.How.TheVariants.{Exit, Signal}
 use Rattle.call_log.specs.declared.how.SeenKind.{SeenKind}
 use Rattle.call_log.specs.declared.how.SeenKind.TheVariants as seen
-use Rattle.call_log.specs.Notes.{Note, Written, call_note, load_note, end_note, stray_note}
+use Rattle.call_log.specs.Notes.{Note, GotRange, call_note, load_note, end_note, stray_note}
 use Rattle.call_log.specs.Lines.{line}
 
 -- two programs
@@ -23,7 +23,7 @@ load-none : told (load_note (record { pid = 1; program = 2; base = 0x1000; pages
 unfolding digits
 load-none = refl
 
-abbrev call : (sent : List ℕ) → (reply : ℕ) → List Written → List ℕ
+abbrev call : (sent : List ℕ) → (reply : ℕ) → List GotRange → List ℕ
 call sent reply got = told (call_note (record { pid = 1; call = 63; args = 3 ∷ 0x8000_1fd0 ∷ 0x10 ∷ 0 ∷ 0 ∷ 0xffff_ffff ∷ []; sent = sent; reply = reply; got = got }))
 
 call-nothing : call [] 0xffff_fff7 [] ≡ codes "call 1 63 00000003 80001fd0 00000010 00000000 00000000 ffffffff = fffffff7 sent - got -\n"

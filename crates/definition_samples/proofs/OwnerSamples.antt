@@ -7,7 +7,7 @@ use Rattle.nommu_regions.specs.Regions.{copy_of}
 use Rattle.mmap_rules.specs.declared.mapping.Range.{Range}
 use Rattle.mmap_rules.specs.declared.mapping.Mapping.{Mapping}
 use Rattle.mmap_rules.specs.declared.owners.PageOwner.{PageOwner}
-use Rattle.mmap_rules.specs.Owners.{free_page, touched, noted, unnoted}
+use Rattle.mmap_rules.specs.Owners.{free_page, touched, entered, taken_out}
 use Rattle.mmap_rules.specs.Held.{Held, block_mapping, held_block, next_brk, released}
 
 -- ---- two pages from byte 64 on, which may be written
@@ -19,22 +19,22 @@ abbrev owner : (from : ℕ) → (write : Bool) → (uses : ℕ) → PageOwner
 owner from write uses = record { from = from; write = write; uses = uses }
 
 -- a page that it begins in, one that it ends in, and the next one
-notes : map (λ page. noted range page free_page) (0 ∷ 1 ∷ 2 ∷ []) ≡ owner 64 true 1 ∷ owner 0 true 1 ∷ free_page ∷ []
-unfolding noted
+notes : map (λ page. entered range page free_page) (0 ∷ 1 ∷ 2 ∷ []) ≡ owner 64 true 1 ∷ owner 0 true 1 ∷ free_page ∷ []
+unfolding entered
 notes = refl
 
 -- where another one was noted before that says which bytes are own, and the count rises; elsewhere nothing changes
-notes-second : map (λ page. noted range page (owner 32 false 1)) (0 ∷ 1 ∷ 2 ∷ []) ≡ owner 32 false 2 ∷ owner 32 false 2 ∷ owner 32 false 1 ∷ []
-unfolding noted
+notes-second : map (λ page. entered range page (owner 32 false 1)) (0 ∷ 1 ∷ 2 ∷ []) ≡ owner 32 false 2 ∷ owner 32 false 2 ∷ owner 32 false 1 ∷ []
+unfolding entered
 notes-second = refl
 
-unnotes : map (λ page. unnoted range page (owner 64 true 2)) (0 ∷ 1 ∷ 2 ∷ []) ≡ owner 64 true 1 ∷ owner 64 true 1 ∷ owner 64 true 2 ∷ []
-unfolding unnoted
+unnotes : map (λ page. taken_out range page (owner 64 true 2)) (0 ∷ 1 ∷ 2 ∷ []) ≡ owner 64 true 1 ∷ owner 64 true 1 ∷ owner 64 true 2 ∷ []
+unfolding taken_out
 unnotes = refl
 
 -- the last one leaves nothing of the page own
-unnotes-last : map (λ page. unnoted range page (owner 64 true 1)) (0 ∷ 1 ∷ 2 ∷ []) ≡ free_page ∷ free_page ∷ owner 64 true 1 ∷ []
-unfolding unnoted
+unnotes-last : map (λ page. taken_out range page (owner 64 true 1)) (0 ∷ 1 ∷ 2 ∷ []) ≡ free_page ∷ free_page ∷ owner 64 true 1 ∷ []
+unfolding taken_out
 unnotes-last = refl
 
 -- no byte touches no page, and two bytes can touch two

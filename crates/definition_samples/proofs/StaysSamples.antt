@@ -31,7 +31,7 @@ use Rattle.machine_world.specs.Free.{free_runs_in}
 use Rattle.machine_world.specs.Event.{ended, stepped, exited, answer, settled, at_process, event}
 use Rattle.machine_world.specs.Turns.{turn, turns}
 use Rattle.machine_world.specs.Boot.{empty_world, started, all_started, boot}
-use Rattle.stays_laws.specs.Stays.{Stay, change_at, collect_all, stays, first_stays, alone_end}
+use Rattle.stays_laws.specs.Stays.{Stay, change_at, collect_all, stays_along, first_stays, alone_end}
 use Rattle.definition_samples.proofs.Exits.{loading, regs, exit_item, rest_with, start, running, over}
 
 -- ---- the run itself: the world at boot, behind one event, and behind all
@@ -62,11 +62,11 @@ unfolding pieces names is_too_long walked place_of free_runs place block_pages f
 stays-first = refl
 
 -- behind one event, and behind all: with its call
-stays-one : stays (stay [] 0 ∷ []) (running 0x8000_0080 0 0) (run 1) ≡ stay [] 1 ∷ []
+stays-one : stays_along (stay [] 0 ∷ []) (running 0x8000_0080 0 0) (run 1) ≡ stay [] 1 ∷ []
 unfolding number_at byte_at from_base decoded opcode funct3 funct7 rd rs1 rs2 imm_i loaded effect meaning register with_register writable_in block_pages frame_len frame frame_start begin_space find change stepped at_process event turn ready_pids picked turns change_at collect_all
 stays-one = refl
 
-stays-all : stays (stay [] 0 ∷ []) (running 0x8000_0080 0 0) (run 9) ≡ stay (exit_item ∷ []) 2 ∷ []
+stays-all : stays_along (stay [] 0 ∷ []) (running 0x8000_0080 0 0) (run 9) ≡ stay (exit_item ∷ []) 2 ∷ []
 unfolding number_at byte_at from_base decoded opcode funct3 funct7 rd rs1 rs2 imm_i loaded effect meaning register with_register sent writable_in has_room block_pages frame_len frame frame_start begin_space find change without ended_behind borrows spaces_left all_left_by all_roused closed without_table all_descriptors ended stepped exited answer settled at_process event turn ready_pids picked turns change_at collect_all
 stays-all = refl
 

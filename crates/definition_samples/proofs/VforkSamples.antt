@@ -33,7 +33,7 @@ use Rattle.machine_world.specs.Recordings.{nothing_recorded}
 use Rattle.machine_world.specs.Families.{is_full, borrows, spaces_left, all_left_by, all_roused, ready_pids}
 use Rattle.machine_world.specs.Event.{ended, stepped, exited, forked, cloned, answer, settled, at_process, event}
 use Rattle.machine_world.specs.Turns.{turn, turns}
-use Rattle.stays_laws.specs.Stays.{Stay, change_at, collect_all, stays, runners, kept_calls_of, loads_of, belonging, alone_end, Agrees, AllAgree, AreRight}
+use Rattle.stays_laws.specs.Stays.{Stay, change_at, collect_all, stays_along, runners, kept_calls_of, loads_of, belonging, alone_end, Agrees, AllAgree, AreRight}
 use Rattle.definition_samples.proofs.Exits.{rest_with, load}
 
 -- six words at number 64: a0 becomes 0x4111 and a7 220, a call, a7 becomes 93, a call
@@ -106,7 +106,7 @@ stay items events = record { loading = loading; pid = 1; items = items; events =
 abbrev all_items : List Item
 all_items = item (entry 1 220 0x4111 2) ∷ item (entry 2 93 0 0) ∷ item (entry 1 93 2 0) ∷ []
 
-stays-all : stays (stay [] 0 ∷ []) first (turns_of 3) ≡ stay all_items 8 ∷ []
+stays-all : stays_along (stay [] 0 ∷ []) first (turns_of 3) ≡ stay all_items 8 ∷ []
 unfolding number_at byte_at from_base decoded opcode funct3 funct7 rd rs1 rs2 imm_i imm_u loaded effect meaning register with_register sent writable_in has_room block_pages frame_len frame frame_start begin_space find change without resumed state_behind ended_behind with_copy closed without_table all_descriptors is_full borrows spaces_left all_left_by all_roused ended stepped exited forked cloned answer settled at_process event turn ready_pids picked turns change_at collect_all
 stays-all = refl
 

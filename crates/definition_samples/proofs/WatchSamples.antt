@@ -17,7 +17,7 @@ use Rattle.region_watch.specs.declared.mode.Mode.{Mode}
 use Rattle.region_watch.specs.declared.mode.Mode.TheVariants.{Halt, GoOn}
 use Rattle.region_watch.specs.Private.{only, own_bytes, frozen, passes, passed_bytes, kept_bytes}
 use Rattle.region_watch.specs.Instructions.{Ran, instructions}
-use Rattle.region_watch.specs.Strays.{noted_stop}
+use Rattle.region_watch.specs.Strays.{stray_after_stop}
 
 -- one page, of which the bytes from 64 on are the program's own, and may be written or not
 abbrev one_page : (write : Bool) → List PageOwner
@@ -117,13 +117,13 @@ keeps-outside = refl
 
 -- ---- the first stray access behind a run
 
-notes-refused : noted_stop None (ran Halt 5).stop ≡ Some (store_of 0x8000_0044 0x8000_004c 1)
+notes-refused : stray_after_stop None (ran Halt 5).stop ≡ Some (store_of 0x8000_0044 0x8000_004c 1)
 unfolding instructions meaning loaded stored decoded opcode effect funct3 rd rs1 rs2 imm_i imm_s register with_register owns owns_at
 notes-refused = refl
 
 -- of a run that wasn't refused none is told, and one that strayed before stays the first
-notes-none : noted_stop None Call ≡ None
+notes-none : stray_after_stop None Call ≡ None
 notes-none = refl
 
-notes-first : noted_stop (Some (fetch_of 0x8000_0000)) (Refused (store_of 0x8000_0044 0x8000_004c 1)) ≡ Some (fetch_of 0x8000_0000)
+notes-first : stray_after_stop (Some (fetch_of 0x8000_0000)) (Refused (store_of 0x8000_0044 0x8000_004c 1)) ≡ Some (fetch_of 0x8000_0000)
 notes-first = refl

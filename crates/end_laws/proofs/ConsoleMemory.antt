@@ -8,7 +8,7 @@ use Rattle.rv32im_step.specs.declared.access.Access.{Access}
 use Rattle.mmap_rules.specs.Space.{Space}
 use Rattle.call_log.specs.declared.errno.Errno.{Errno}
 use Rattle.call_log.specs.Errno.{refusal}
-use Rattle.call_log.specs.Notes.{Written, CallEntry, Note, stray_note}
+use Rattle.call_log.specs.Notes.{GotRange, CallEntry, Note, stray_note}
 use Rattle.call_log.specs.Sent.{Span, most_pieces, sent}
 use Rattle.quantum_sched.specs.Picked.{picked}
 use Rattle.vfork_exec.specs.declared.family.Who.{Who}
@@ -30,7 +30,7 @@ use Rattle.machine_world.specs.Turns.{End, seen_of}
 use Rattle.machine_world.proofs.States.{find_has}
 use Rattle.stays_laws.specs.Stays.{kept_calls_of}
 use Rattle.stays_laws.proofs.Lists.{eqb_is}
-use Rattle.physical_turns.specs.Physical.{Physical, After, after, no_room, nobody, behind, carried, settled_in, outside, killed, put_in, answered_in, full_at, reaped_in, waitid_behind_in, waitid_in, writes_nothing, classed_in, asked_in, answer_in, effect_in, in_space, by_process, at_process, in_memory, next_meaning, carried_out, first_stray, with_stray, physical_event, Walk, stays_at, turned, physical_turn, going_on, quantum_turn, physical_turns}
+use Rattle.physical_turns.specs.Physical.{Physical, After, after, no_room, nobody, behind, carried, settled_in, outside, killed, put_in, answered_in, full_at, reaped_in, waitid_behind_in, waitid_in, writes_nothing, classed_in, asked_in, answer_in, effect_in, in_space_in, by_process_in, at_process_in, in_memory, next_meaning, carried_out, first_stray_in, with_stray, event_in, WalkIn, remains_at_in, turned_in, turn_in, going_on_in, quantum_turn_in, turns_in}
 use Rattle.end_laws.specs.Console.{is_write, data_of, prints, printed, AreWhole, calls_of}
 use Rattle.end_laws.specs.ConsoleIn.{calls_since, PrintsIn, EventsPrintIn, MomentIn, moments_behind_in, turn_moments_in, moments_on_in, quantum_moments_in, moments_in, all_calls_in, all_printed_in, AllWholeIn, PrintsAlongIn, TurnsPrintIn, RunsPrintIn}
 use Rattle.end_laws.proofs.ConsoleRows.{IsQuiet, quiet_rows, AddsIn, adds_write, adds_writev}
@@ -100,7 +100,7 @@ module _ (p : Physical) where
     tells_put gone r (Err span) each = tells_killed gone a.process outside
 
     module _ (isnt : is_write a.number ≡ false) where
-      tells_gives : (gone : List Ended) (value : ℕ) (got : List Written) → TellsIn p.world (answered_in (with_ended gone) a (gives a value got a.rest))
+      tells_gives : (gone : List Ended) (value : ℕ) (got : List GotRange) → TellsIn p.world (answered_in (with_ended gone) a (gives a value got a.rest))
       tells_gives gone value got =
           let r : Reply = record { value = value; got = got; rest = a.rest; space = a.space; over = false } in
           tells_put gone r (put_got p.memory (in_memory p.world) got) (λ m. quiet_served p.world a same isnt gone r m refl)
@@ -179,19 +179,19 @@ module _ (p : Physical) where
     tells_effect call = tells_settled p.world (answer_in p q s) (tells_asked (sent (number_of q.regs) (args_of q.regs) p.memory) refl)
 
   tells_in : (q : Process) → find pid_of q.pid p.world.procs ≡ Some q → (found : Option LiveSpace)
-      → TellsIn p.world (in_space (λ r s. effect_in p r s (next_meaning p r)) q found)
+      → TellsIn p.world (in_space_in (λ r s. effect_in p r s (next_meaning p r)) q found)
   tells_in q lives None = tt
   tells_in q lives (Some s) = tells_effect q s.space lives (next_meaning p q)
 
   tells_by : (pid : ℕ) (found : Option Process) → find pid_of pid p.world.procs ≡ found
-      → TellsIn p.world (by_process p.world.spaces (λ r s. effect_in p r s (next_meaning p r)) found)
+      → TellsIn p.world (by_process_in p.world.spaces (λ r s. effect_in p r s (next_meaning p r)) found)
   tells_by pid None lives = tt
   tells_by pid (Some q) lives =
       let own : q.pid ≡ pid = find_has pid_of pid p.world.procs q lives in
       tells_in q (ap (λ n. find pid_of n p.world.procs) own ∙ lives) (find id_of q.space p.world.spaces)
 
   tells_carried_out : (pid : ℕ) → TellsIn p.world (carried_out p pid)
-  unfolding carried_out at_process
+  unfolding carried_out at_process_in
   tells_carried_out pid = tells_by pid (find pid_of pid p.world.procs) refl
 
 -- ---- an event, behind the note of the first stray access
@@ -227,9 +227,9 @@ unfolding kept_calls_of
 tells_first p pid None = tells_carried_out p pid
 tells_first p pid (Some access) = tells_noted (stray_note pid (seen_of access)) p.world refl (carried_out (with_stray pid (Some access) p) pid) (tells_carried_out (with_stray pid (Some access) p) pid)
 
-tells_event : (p : Physical) (pid : ℕ) → TellsIn p.world (physical_event p pid)
-unfolding physical_event
-tells_event p pid = tells_first p pid (first_stray p pid)
+tells_event : (p : Physical) (pid : ℕ) → TellsIn p.world (event_in p pid)
+unfolding event_in
+tells_event p pid = tells_first p pid (first_stray_in p pid)
 
 pub events_print_in : EventsPrintIn
 events_print_in p pid now over is = subst (TellsIn p.world) is (tells_event p pid)
@@ -271,35 +271,35 @@ along_both p mid last ms ns h on = record {
 
 -- ---- turns and runs
 
-module _ (more : Physical → Walk) (behind_it : Physical → List MomentIn) (on : (q : Physical) → PrintsAlongIn q (behind_it q) (more q).now) (p : Physical) where
-  along_turned : (a : After) → TellsIn p.world a → PrintsAlongIn p (moments_behind_in behind_it p a) (turned more p a).now
+module _ (more : Physical → WalkIn) (behind_it : Physical → List MomentIn) (on : (q : Physical) → PrintsAlongIn q (behind_it q) (more q).now) (p : Physical) where
+  along_turned : (a : After) → TellsIn p.world a → PrintsAlongIn p (moments_behind_in behind_it p a) (turned_in more p a).now
   along_turned (after now over) h = by_over over
     where
-      by_over : (b : Bool) → PrintsAlongIn p (record { world = p.world; calls = calls_since p.world now.world } ∷ (if b then [] else behind_it now)) (if b then stays_at now None else more now).now
+      by_over : (b : Bool) → PrintsAlongIn p (record { world = p.world; calls = calls_since p.world now.world } ∷ (if b then [] else behind_it now)) (if b then remains_at_in now None else more now).now
       by_over true = along_more p now now [] h (along_none now)
       by_over false = along_more p now (more now).now (behind_it now) h (on now)
   along_turned (no_room now) h = record { notes = h.0 ∙ sym (append-nil (kept_calls_of p.world.notes)); console = h.1 ∙ sym (append-nil p.world.rest.console); whole = tt }
   along_turned nobody h = along_none p
 
 pub turns_print_in : TurnsPrintIn
-unfolding physical_turn turn_moments_in
+unfolding turn_in turn_moments_in
 turns_print_in zero pid p = along_none p
-turns_print_in (suc count) pid p = along_turned (physical_turn count pid) (turn_moments_in count pid) (turns_print_in count pid) p (physical_event p pid) (tells_event p pid)
+turns_print_in (suc count) pid p = along_turned (turn_in count pid) (turn_moments_in count pid) (turns_print_in count pid) p (event_in p pid) (tells_event p pid)
 
-module _ (more : Physical → Walk) (behind_it : Physical → List MomentIn) (on : (q : Physical) → PrintsAlongIn q (behind_it q) (more q).now) (p : Physical) (count : ℕ) where
-  along_quantum : (chosen : Option ℕ) → PrintsAlongIn p (quantum_moments_in behind_it p count chosen) (quantum_turn more p count chosen).now
+module _ (more : Physical → WalkIn) (behind_it : Physical → List MomentIn) (on : (q : Physical) → PrintsAlongIn q (behind_it q) (more q).now) (p : Physical) (count : ℕ) where
+  along_quantum : (chosen : Option ℕ) → PrintsAlongIn p (quantum_moments_in behind_it p count chosen) (quantum_turn_in more p count chosen).now
   along_quantum None = along_none p
-  along_quantum (Some pid) = goes (physical_turn count pid p) (turns_print_in count pid p)
+  along_quantum (Some pid) = goes (turn_in count pid p) (turns_print_in count pid p)
     where
-      goes : (walk : Walk) → PrintsAlongIn p (turn_moments_in count pid p) walk.now
-          → PrintsAlongIn p (turn_moments_in count pid p ++ moments_on_in behind_it walk.now walk.end) (going_on more walk).now
+      goes : (walk : WalkIn) → PrintsAlongIn p (turn_moments_in count pid p) walk.now
+          → PrintsAlongIn p (turn_moments_in count pid p ++ moments_on_in behind_it walk.now walk.end) (going_on_in more walk).now
       goes walk h = at walk.end
         where
-          at : (end : Option End) → PrintsAlongIn p (turn_moments_in count pid p ++ moments_on_in behind_it walk.now end) (going_on more (record walk { end = end })).now
+          at : (end : Option End) → PrintsAlongIn p (turn_moments_in count pid p ++ moments_on_in behind_it walk.now end) (going_on_in more (record walk { end = end })).now
           at (Some end) = subst (λ ms. PrintsAlongIn p ms walk.now) (sym (append-nil (turn_moments_in count pid p))) h
           at None = along_both p walk.now (more walk.now).now (turn_moments_in count pid p) (behind_it walk.now) h (on walk.now)
 
 pub runs_print_in : RunsPrintIn
-unfolding physical_turns moments_in
+unfolding turns_in moments_in
 runs_print_in [] p = along_none p
-runs_print_in (q ∷ qs) p = along_quantum (physical_turns qs) (moments_in qs) (runs_print_in qs) p q.count (picked q.pick (ready_pids p.world.procs))
+runs_print_in (q ∷ qs) p = along_quantum (turns_in qs) (moments_in qs) (runs_print_in qs) p q.count (picked q.pick (ready_pids p.world.procs))

@@ -9,7 +9,7 @@ use Rattle.machine_world.specs.World.{World}
 use Rattle.machine_world.specs.Families.{ready_pids}
 use Rattle.machine_world.specs.Free.{free}
 use Rattle.machine_world.specs.Event.{Trace, Outcome, went, strays, full, idle, event}
-use Rattle.machine_world.specs.Turns.{Walk, End, traced, stays_at, turned, turn, walked, going_on, quantum_turn, turns}
+use Rattle.machine_world.specs.Turns.{Walk, End, traced, remains_at, turned, turn, walked, going_on, quantum_turn, turns}
 use Rattle.machine_world.specs.Boot.{StartLine, BootFault, Found, found, start_path, taken, placed, fitting, located, started, then_started, all_started, empty_world, boot}
 use Rattle.stays_laws.specs.Stays.{kept_calls_of}
 use Rattle.end_laws.specs.Console.{calls_of, printed, Prints, Moment, moments_behind, turn_moments, moments_on, quantum_moments, moments, all_calls, all_printed, AllWhole, PrintsAlong, TurnsPrint, RunsPrint, BootsPrintNone}
@@ -21,7 +21,7 @@ abbrev trace_of : Moment → Trace
 trace_of m = m.trace
 
 -- no event
-along_none : (w : World) (end : Option End) → PrintsAlong w [] (stays_at w end)
+along_none : (w : World) (end : Option End) → PrintsAlong w [] (remains_at w end)
 along_none w end = record { traces = refl; notes = sym (append-nil (kept_calls_of w.notes)); console = sym (append-nil w.rest.console); whole = tt }
 
 -- an event, and those behind it
@@ -71,8 +71,8 @@ module _ (more : World → Walk) (behind : World → List Moment) (on : (v : Wor
   unfolding kept_calls_of
   along_turned (went now t) h = by_over t.over
     where
-      by_over : (b : Bool) → PrintsAlong w (record { world = w; trace = t } ∷ (if b then [] else behind now)) (traced t (if b then stays_at now None else more now))
-      by_over true = along_more w now t [] (stays_at now None) h (along_none now None)
+      by_over : (b : Bool) → PrintsAlong w (record { world = w; trace = t } ∷ (if b then [] else behind now)) (traced t (if b then remains_at now None else more now))
+      by_over true = along_more w now t [] (remains_at now None) h (along_none now None)
       by_over false = along_more w now t (behind now) (more now) h (on now)
   along_turned (strays access) h =
       record { traces = refl; notes = sym (append-nil (kept_calls_of w.notes)); console = sym (append-nil w.rest.console); whole = tt }

@@ -10,7 +10,7 @@ use Rattle.quantum_sched.specs.Picked.{picked}
 use Rattle.machine_world.specs.World.{World}
 use Rattle.machine_world.specs.Families.{MayRun, ready_pids}
 use Rattle.machine_world.specs.Event.{Trace, Outcome, went, strays, full, idle, noted, event}
-use Rattle.machine_world.specs.Turns.{Walk, End, stray_at, seen_of, traced, stays_at, turned, turn, going_on, quantum_turn, turns}
+use Rattle.machine_world.specs.Turns.{Walk, End, stray_at, seen_of, traced, remains_at, turned, turn, going_on, quantum_turn, turns}
 use Rattle.machine_world.proofs.TurnLaws.{turn_strays}
 use Rattle.machine_world.proofs.Runnable.{may_run_still, ready_found}
 use Rattle.stays_laws.specs.Stays.{Stay, change_at, longer, begun_stay, collect, collect_all, AreRight}
@@ -136,7 +136,7 @@ module _ (ys : List Stay) (w : World) (pid : ℕ) (may : MayRun w pid) (h : Hold
     told = event_tells ys w pid now t h.sound may h.right is h.told;
   }
 
-  holds_strays : (access : Access) → event w pid ≡ strays access → HoldsBehind ys (stays_at (noted (stray_note pid (seen_of access)) w) (Some (stray_at pid access)))
+  holds_strays : (access : Access) → event w pid ≡ strays access → HoldsBehind ys (remains_at (noted (stray_note pid (seen_of access)) w) (Some (stray_at pid access)))
   unfolding collect_all
   holds_strays access is =
       let one = turn_strays pid w access is 1 (omega arith) in
@@ -151,7 +151,7 @@ module _ (ys : List Stay) (w : World) (pid : ℕ) (may : MayRun w pid) (h : Hold
   unfolding collect_all
   holds_turned more on (went now t) is = over t.over refl
     where
-      over : (b : Bool) → t.over ≡ b → HoldsBehind ys (traced t (if b then stays_at now None else more now))
+      over : (b : Bool) → t.over ≡ b → HoldsBehind ys (traced t (if b then remains_at now None else more now))
       over true ends = holds_went now t is
       over false ends = on (collect ys t) now (may_run_still w pid now t may is ends) (holds_went now t is)
   holds_turned more on (strays access) is = holds_strays access is

@@ -8,7 +8,7 @@ use Rattle.call_log.specs.declared.how.How.{How}
 use Rattle.call_log.specs.declared.errno.Errno.{Errno}
 use Rattle.call_log.specs.declared.errno.Errno.TheVariants.{Einval, Eagain, Enomem, E2big, Enametoolong}
 use Rattle.call_log.specs.Errno.{refusal}
-use Rattle.call_log.specs.Notes.{Written, Note, call_note, load_note, end_note, stray_note, weight_of}
+use Rattle.call_log.specs.Notes.{GotRange, Note, call_note, load_note, end_note, stray_note, weight_of}
 use Rattle.call_log.specs.Strings.{ProgramStrings, program_strings}
 use Rattle.call_log.specs.Sent.{Span, has_zero}
 use Rattle.flat_loader.specs.Original.{block_pages}
@@ -93,7 +93,7 @@ module _ (E : Trace → ℕ → How → Type 0) where
     adds_put ended r (Ok m) = adds_served ended r m
     adds_put ended r (Err span) = tt
 
-    adds_gives : (ended : List Ended) (value : ℕ) (got : List Written) → Adds w.notes (answered (record w { ended = ended }) a (gives a value got a.rest))
+    adds_gives : (ended : List Ended) (value : ℕ) (got : List GotRange) → Adds w.notes (answered (record w { ended = ended }) a (gives a value got a.rest))
     adds_gives ended value got =
         adds_put ended (record { value = value; got = got; rest = a.rest; space = a.space; over = false }) (put_got a.space.bytes (writable_in a.space.maps) got)
 

@@ -6,7 +6,7 @@ use Rattle.quantum_sched.specs.Picked.{picked}
 use Rattle.machine_world.specs.World.{World}
 use Rattle.machine_world.specs.Families.{ready_pids}
 use Rattle.machine_world.specs.Turns.{End}
-use Rattle.physical_turns.specs.Physical.{Physical, After, after, no_room, nobody, physical_event, physical_turn, physical_turns}
+use Rattle.physical_turns.specs.Physical.{Physical, After, after, no_room, nobody, event_in, turn_in, turns_in}
 use Rattle.stays_laws.specs.Stays.{kept_calls_of}
 use Rattle.end_laws.specs.Console.{printed, AreWhole}
 
@@ -23,7 +23,7 @@ pub record PrintsIn (w now : World) : Type 0 where
   pub whole : AreWhole w (calls_since w now)
 
 abbrev pub EventsPrintIn : Type 0
-EventsPrintIn = (p : Physical) (pid : ℕ) (now : Physical) (over : Bool) → physical_event p pid ≡ after now over → PrintsIn p.world now.world
+EventsPrintIn = (p : Physical) (pid : ℕ) (now : Physical) (over : Bool) → event_in p pid ≡ after now over → PrintsIn p.world now.world
 
 -- ---- a run, event by event
 
@@ -39,7 +39,7 @@ moments_behind_in more p nobody = []
 
 unfoldable pub turn_moments_in : ℕ → ℕ → Physical → List MomentIn
 turn_moments_in zero pid p = []
-turn_moments_in (suc n) pid p = moments_behind_in (turn_moments_in n pid) p (physical_event p pid)
+turn_moments_in (suc n) pid p = moments_behind_in (turn_moments_in n pid) p (event_in p pid)
 
 abbrev pub moments_on_in : (Physical → List MomentIn) → Physical → Option End → List MomentIn
 moments_on_in more p (Some end) = []
@@ -47,7 +47,7 @@ moments_on_in more p None = more p
 
 abbrev pub quantum_moments_in : (Physical → List MomentIn) → Physical → ℕ → Option ℕ → List MomentIn
 quantum_moments_in more p count None = []
-quantum_moments_in more p count (Some pid) = turn_moments_in count pid p ++ moments_on_in more (physical_turn count pid p).now (physical_turn count pid p).end
+quantum_moments_in more p count (Some pid) = turn_moments_in count pid p ++ moments_on_in more (turn_in count pid p).now (turn_in count pid p).end
 
 -- the events of a run
 unfoldable pub moments_in : List Quantum → Physical → List MomentIn
@@ -73,7 +73,7 @@ pub record PrintsAlongIn (p : Physical) (ms : List MomentIn) (now : Physical) : 
   pub whole : AllWholeIn ms
 
 abbrev pub TurnsPrintIn : Type 0
-TurnsPrintIn = (count pid : ℕ) (p : Physical) → PrintsAlongIn p (turn_moments_in count pid p) (physical_turn count pid p).now
+TurnsPrintIn = (count pid : ℕ) (p : Physical) → PrintsAlongIn p (turn_moments_in count pid p) (turn_in count pid p).now
 
 abbrev pub RunsPrintIn : Type 0
-RunsPrintIn = (quanta : List Quantum) (p : Physical) → PrintsAlongIn p (moments_in quanta p) (physical_turns quanta p).now
+RunsPrintIn = (quanta : List Quantum) (p : Physical) → PrintsAlongIn p (moments_in quanta p) (turns_in quanta p).now

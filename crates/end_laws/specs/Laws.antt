@@ -12,7 +12,7 @@ use Rattle.machine_world.specs.Families.{MayRun}
 use Rattle.machine_world.specs.Event.{Trace, went, is_exit, event}
 use Rattle.machine_world.specs.Turns.{turn, turns}
 use Rattle.machine_world.specs.Boot.{StartLine, boot}
-use Rattle.stays_laws.specs.Stays.{Stay, AreRight, alone_end, collect_all, stays}
+use Rattle.stays_laws.specs.Stays.{Stay, AreRight, alone_end, collect_all, stays_along}
 use Rattle.stays_laws.specs.Sound.{IsSound}
 
 -- ---- one event
@@ -79,4 +79,4 @@ TurnsEndAsAlone =
 
 abbrev pub RunsEndAsAlone : Type 0
 RunsEndAsAlone =
-    (ys : List Stay) (quanta : List Quantum) (w : World) → IsSound w → AreRight ys w → EndsAreTold ys w.notes → EndsAreTold (stays ys w quanta) (turns quanta w).world.notes
+    (ys : List Stay) (quanta : List Quantum) (w : World) → IsSound w → AreRight ys w → EndsAreTold ys w.notes → EndsAreTold (stays_along ys w quanta) (turns quanta w).world.notes

@@ -34,7 +34,7 @@ unnamed_by None opens is stays = tt
 unnamed_by (Some n) opens is stays = λ unnamed. omega (arith, is, held_unnamed n unnamed stays)
 
 pub unnamed_while_open : (s : Storage) (id : ℕ) → Counted s → IfSome (inode_at s.nodes id) (λ n. n.linked ≡ false → 1 ≤ opens_of s.files id)
-unnamed_while_open s id c = unnamed_by (inode_at s.nodes id) (opens_of s.files id) (c.holds id) (c.stays id)
+unnamed_while_open s id c = unnamed_by (inode_at s.nodes id) (opens_of s.files id) (c.holds id) (c.remains id)
 
 -- ---- ends of pipes
 
@@ -79,7 +79,7 @@ counted-nothing_open nodes stdin each = record {
   uses = λ n. refl;
   used = λ n. tt;
   holds = λ id. (named (inode_at nodes id) (each id)).0;
-  stays = λ id. (named (inode_at nodes id) (each id)).1;
+  remains = λ id. (named (inode_at nodes id) (each id)).1;
   whole = λ t. tt;
   read_ends = λ id. sym (ap one (view_read (nothing_open stdin) id ∙ nothing_found false id));
   write_ends = λ id. sym (ap one (view_write (nothing_open stdin) id ∙ nothing_found true id));

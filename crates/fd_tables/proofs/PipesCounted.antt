@@ -99,7 +99,7 @@ counted-pipe_put s id bytes c = unless_none s (length bytes == 0) _ c (with_byte
 pub counted-marks : (s : Storage) (numbers : List ℕ) → Counted s → Counted (storage s.nodes (record s.files { changed = numbers }))
 counted-marks s numbers c =
     let b = sound s c in
-    counted (storage s.nodes (record s.files { changed = numbers })) (record { used = b.used; holds = b.holds; stays = b.stays; whole = b.whole; ends = b.ends; few_files = b.few_files; few_tables = b.few_tables }) c.uses
+    counted (storage s.nodes (record s.files { changed = numbers })) (record { used = b.used; holds = b.holds; remains = b.remains; whole = b.whole; ends = b.ends; few_files = b.few_files; few_tables = b.few_tables }) c.uses
 
 pub counted-none_changed : (s : Storage) → Counted s → Counted (storage s.nodes (none_changed s.files))
 counted-none_changed s c = counted-marks s [] c

@@ -42,4 +42,4 @@ counted-moved s t fd at c = by_descriptor s at (descriptor s.files t fd) c
 
 pub counted-taken : (s : Storage) (n : ℕ) → Counted s → Counted (storage s.nodes (taken s.files n))
 unfolding taken
-counted-taken s n c = let b = sound s c in counted (storage s.nodes (record s.files { stdin = drop n s.files.stdin })) (record { used = b.used; holds = b.holds; stays = b.stays; whole = b.whole; ends = b.ends; few_files = b.few_files; few_tables = b.few_tables }) c.uses
+counted-taken s n c = let b = sound s c in counted (storage s.nodes (record s.files { stdin = drop n s.files.stdin })) (record { used = b.used; holds = b.holds; remains = b.remains; whole = b.whole; ends = b.ends; few_files = b.few_files; few_tables = b.few_tables }) c.uses

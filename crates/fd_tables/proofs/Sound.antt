@@ -30,7 +30,7 @@ IsUsed o = IfSome o (λ f. 1 ≤ f.uses)
 pub record Sound (s : Storage) : Type 0 where
   pub used : (n : ℕ) → IsUsed (at_number s.files.files n)
   pub holds : (id : ℕ) → holds_at s.nodes id ≡ opens_of s.files id
-  pub stays : (id : ℕ) → IsKept (inode_at s.nodes id)
+  pub remains : (id : ℕ) → IsKept (inode_at s.nodes id)
   pub whole : (t : ℕ) → IsWhole (table_at s.files t)
   pub ends : EndsCounted s.files.files s.files.pipes s.files.next_pipe
   pub few_files : length s.files.files ≤ 2 ^ 32
@@ -44,7 +44,7 @@ counted_ends s c = record { ends = by; open_pipes = c.open_pipes; numbers = c.pi
     by id true = c.write_ends id ∙ ap one (view_write s.files id)
 
 pub sound : (s : Storage) → Counted s → Sound s
-sound s c = record { used = c.used; holds = c.holds; stays = c.stays; whole = c.whole; ends = counted_ends s c; few_files = c.few_files; few_tables = c.few_tables }
+sound s c = record { used = c.used; holds = c.holds; remains = c.remains; whole = c.whole; ends = counted_ends s c; few_files = c.few_files; few_tables = c.few_tables }
 
 -- ---- tables
 
@@ -56,7 +56,7 @@ pub sound-place : (s : Storage) (t fd : ℕ) (d : Option Descriptor) → Sound s
 sound-place s t fd d b = record {
   used = b.used;
   holds = b.holds;
-  stays = b.stays;
+  remains = b.remains;
   whole = item_each IsWhole (λ table. Some (slice_set table fd d)) s.files.tables t (set_whole (table_at s.files t) fd d (b.whole t)) b.whole;
   ends = b.ends;
   few_files = b.few_files;
@@ -71,7 +71,7 @@ pub sound-gone_table : (s : Storage) (t : ℕ) → Sound s → Sound (storage s.
 sound-gone_table s t b = record {
   used = b.used;
   holds = b.holds;
-  stays = b.stays;
+  remains = b.remains;
   whole = item_each IsWhole (λ table. None) s.files.tables t (gone_whole (table_at s.files t)) b.whole;
   ends = b.ends;
   few_files = b.few_files;
@@ -82,7 +82,7 @@ pub sound-next_table : (s : Storage) (table : Table) → length table ≡ most_d
 sound-next_table s table whole room b = record {
   used = b.used;
   holds = b.holds;
-  stays = b.stays;
+  remains = b.remains;
   whole = next_each IsWhole table s.files.tables whole b.whole;
   ends = b.ends;
   few_files = b.few_files;
@@ -107,7 +107,7 @@ module _ (u : OpenFile → OpenFile) (same : (f : OpenFile) → ((u f).object �
   sound-file s n used b = record {
     used = item_each IsUsed (λ f. Some (u f)) s.files.files n (used_by (at_number s.files.files n) used) b.used;
     holds = λ id. b.holds id ∙ sym (sum-item_same (opens_one id) (λ f. Some (u f)) s.files.files n (same_node (at_number s.files.files n) id));
-    stays = b.stays;
+    remains = b.remains;
     whole = b.whole;
     ends = ends-file u same s.files.files n s.files.pipes s.files.next_pipe b.ends;
     few_files = omega (arith, b.few_files, length-item (λ f. Some (u f)) s.files.files n);
@@ -133,7 +133,7 @@ node_gone s n node f there is b = record {
       let e = sum-item (opens_one id) (λ f. None) s.files.files n in
       omega (arith, e, ap (opens_one id) there, ap (λ o. opens_one id (made (λ f. None) o)) there, ap (λ (o : Object). one (is_node id o)) is) in
       omega (arith, b.holds id, holds-let_go s.nodes node id (omega (arith, b.holds id)));
-  stays = kept-let_go s.nodes node b.stays;
+  remains = kept-let_go s.nodes node b.remains;
   whole = b.whole;
   ends = ends-node_gone s.files.files n node f s.files.pipes s.files.next_pipe there is b.ends;
   few_files = omega (arith, b.few_files, length-item (λ f. None) s.files.files n);
@@ -147,7 +147,7 @@ end_gone s n id f p there is pipe open_end b = record {
   holds = λ k.
       let e = sum-item (opens_one k) (λ f. None) s.files.files n in
       omega (arith, b.holds k, e, ap (opens_one k) there, ap (λ o. opens_one k (made (λ f. None) o)) there, ap (λ (o : Object). one (is_node k o)) is);
-  stays = b.stays;
+  remains = b.remains;
   whole = b.whole;
   ends = ends-gone s.files.files (with_file (λ f. None) s.files n) n id f p there is pipe open_end b.ends;
   few_files = omega (arith, b.few_files, length-item (λ f. None) s.files.files n);
@@ -182,7 +182,7 @@ sound-opened s f node is used there room b = record {
   holds = λ id.
       let more : opens_of (with_open_file s.files f) id ≡ opens_of s.files id + one (is_node id f.object) = sum-next (opens_one id) refl f s.files.files in
       omega (arith, b.holds id, more, ap (λ (o : Object). one (is_node id o)) is, holds-held s.nodes node id there (omega (arith, b.holds node, b.few_files, count_by-le-length (opens_node node) s.files.files)));
-  stays = kept-held s.nodes node b.stays;
+  remains = kept-held s.nodes node b.remains;
   whole = b.whole;
   ends = ends-node_next s.files.files node f s.files.pipes s.files.next_pipe is b.ends;
   few_files = length-next f s.files.files (2 ^ 32) b.few_files room;
@@ -199,7 +199,7 @@ sound-piped s few b =
     record {
       used = next_each IsUsed write (with_next read s.files.files) (omega arith) (next_each IsUsed read s.files.files (omega arith) b.used);
       holds = λ id. omega (arith, b.holds id, sum-next (opens_one id) refl read s.files.files, sum-next (opens_one id) refl write (with_next read s.files.files));
-      stays = b.stays;
+      remains = b.remains;
       whole = b.whole;
       ends = ends-piped s.files b.ends;
       few_files =
@@ -215,7 +215,7 @@ pub sound-bytes : (s : Storage) (id : ℕ) (p : Pipe) (bytes : List ℕ) → pip
 sound-bytes s id p bytes there b = record {
   used = b.used;
   holds = b.holds;
-  stays = b.stays;
+  remains = b.remains;
   whole = b.whole;
   ends = ends-bytes s.files.files s.files id p bytes there b.ends;
   few_files = b.few_files;

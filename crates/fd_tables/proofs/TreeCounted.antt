@@ -18,17 +18,17 @@ use Rattle.fd_tables.proofs.Holds.{holds_at, change_at, change_other, holds-kept
 -- each count stays, and each node is kept as before
 record Same (old new : Inodes) : Type 0 where
   holds : (k : ℕ) → holds_at new k ≡ holds_at old k
-  stays : ((k : ℕ) → IsKept (inode_at old k)) → (k : ℕ) → IsKept (inode_at new k)
+  remains : ((k : ℕ) → IsKept (inode_at old k)) → (k : ℕ) → IsKept (inode_at new k)
 
 both : (first second third : Inodes) → Same first second → Same second third → Same first third
-both first second third a b = record { holds = λ k. b.holds k ∙ a.holds k; stays = λ each. b.stays (a.stays each) }
+both first second third a b = record { holds = λ k. b.holds k ∙ a.holds k; remains = λ each. b.remains (a.remains each) }
 
 made_holds : (f : Inode → Option Inode) → ((n : Inode) → holds_in (f n) ≡ n.holds) → (o : Option Inode) → holds_in (made f o) ≡ holds_in o
 made_holds f same None = refl
 made_holds f same (Some n) = same n
 
 change_same : (f : Inode → Option Inode) → ((n : Inode) → holds_in (f n) ≡ n.holds) → ((n : Inode) → kept n ≡ Some n → IsKept (f n)) → (ns : Inodes) (id : ℕ) → Same ns (with_change f ns id)
-change_same f same keeps ns id = record { holds = λ k. by k (cases_eq k id); stays = change_kept f keeps ns id }
+change_same f same keeps ns id = record { holds = λ k. by k (cases_eq k id); remains = change_kept f keeps ns id }
   where
     by : (k : ℕ) → (k ≡ id) ⊎ (k ≡ id → ⊥) → holds_at (with_change f ns id) k ≡ holds_at ns k
     by k (inl e) = subst (λ (j : ℕ). holds_at (with_change f ns id) j ≡ holds_at ns j) (sym e) (ap holds_in (change_at f ns id) ∙ made_holds f same (inode_at ns id))
@@ -67,7 +67,7 @@ behind_stays n is (m ∷ ns) each (suc k) = behind_stays n is ns (λ j. each (su
 new_same : (ns : Inodes) (at : ℕ) (name : List ℕ) (n : Inode) → n.holds ≡ 0 → kept n ≡ Some n → Same ns (with_new ns at name n)
 new_same ns at name n none is =
     both ns (with_entry ns at name (length ns)) (with_new ns at name n) (content_same _ (λ m. entries_alike (λ entries. entries ++ record { name = name; id = length ns } ∷ []) m) ns at)
-    (record { holds = behind_holds n none (with_entry ns at name (length ns)); stays = behind_stays n is (with_entry ns at name (length ns)) })
+    (record { holds = behind_holds n none (with_entry ns at name (length ns)); remains = behind_stays n is (with_entry ns at name (length ns)) })
 
 unnamed_same : (ns : Inodes) (p : Place) (id : ℕ) → Same ns (unnamed ns p id)
 unnamed_same ns p id =
@@ -95,7 +95,7 @@ keeps-space ns now same = either ns (nat_le (node_count now) most_nodes && nat_l
 keeps-written : (ns : Inodes) (id at : ℕ) (bytes : List ℕ) → Keeps ns (written ns id at bytes)
 unfolding written
 keeps-written ns id at bytes =
-    either ns (length bytes == 0) _ _ (done ns ns (record { holds = λ k. refl; stays = λ each. each }))
+    either ns (length bytes == 0) _ _ (done ns ns (record { holds = λ k. refl; remains = λ each. each }))
     (either ns (nat_lt most_of_one (at + length bytes)) _ _ (refused ns _) (keeps-space ns _ (content_same _ (λ n. bytes_alike (overwritten at bytes) n) ns id)))
 
 keeps-truncated : (ns : Inodes) (id : ℕ) → Keeps ns (Ok (truncated ns id))
@@ -133,7 +133,7 @@ over s new c same = record {
   uses = c.uses;
   used = c.used;
   holds = λ id. same.holds id ∙ c.holds id;
-  stays = same.stays c.stays;
+  remains = same.remains c.remains;
   whole = c.whole;
   read_ends = c.read_ends;
   write_ends = c.write_ends;

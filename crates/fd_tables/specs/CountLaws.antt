@@ -14,20 +14,20 @@ use Rattle.fd_tables.specs.Counts.{opens_of, shares_of, ends_of, Counted}
 -- ---- what the counts mean
 
 -- an open file is there exactly while a descriptor shares it
-abbrev pub StaysWhileShared : Type 0
-StaysWhileShared = (s : Storage) (n : ℕ) → Counted s → is_some (at_number s.files.files n) ≡ nat_lt 0 (shares_of s.files n)
+abbrev pub RemainsWhileShared : Type 0
+RemainsWhileShared = (s : Storage) (n : ℕ) → Counted s → is_some (at_number s.files.files n) ≡ nat_lt 0 (shares_of s.files n)
 
 -- a node is there while an open file holds it
-abbrev pub StaysWhileOpen : Type 0
-StaysWhileOpen = (s : Storage) (id : ℕ) → Counted s → 1 ≤ opens_of s.files id → is_some (inode_at s.nodes id) ≡ true
+abbrev pub RemainsWhileOpen : Type 0
+RemainsWhileOpen = (s : Storage) (id : ℕ) → Counted s → 1 ≤ opens_of s.files id → is_some (inode_at s.nodes id) ≡ true
 
 -- and one that no folder names only then
 abbrev pub UnnamedWhileOpen : Type 0
 UnnamedWhileOpen = (s : Storage) (id : ℕ) → Counted s → IfSome (inode_at s.nodes id) (λ n. n.linked ≡ false → 1 ≤ opens_of s.files id)
 
 -- an end of a pipe is open exactly while an open file is it, and a pipe is there while one of its ends is open
-abbrev pub EndsStayWhileOpen : Type 0
-EndsStayWhileOpen = (s : Storage) (id : ℕ) → Counted s →
+abbrev pub EndsRemainWhileOpen : Type 0
+EndsRemainWhileOpen = (s : Storage) (id : ℕ) → Counted s →
     ((pipe_view s.files id).read_open ≡ nat_lt 0 (ends_of s.files id false)) × ((pipe_view s.files id).write_open ≡ nat_lt 0 (ends_of s.files id true))
     × (is_some (pipe_at s.files id) ≡ ((pipe_view s.files id).read_open || (pipe_view s.files id).write_open))
 

@@ -88,7 +88,7 @@ pub record Counted (s : Storage) : Type 0 where
   pub uses : (n : ℕ) → uses_in (at_number s.files.files n) ≡ shares_of s.files n
   pub used : (n : ℕ) → IfSome (at_number s.files.files n) (λ f. 1 ≤ f.uses)
   pub holds : (id : ℕ) → holds_in (inode_at s.nodes id) ≡ opens_of s.files id
-  pub stays : (id : ℕ) → IfSome (inode_at s.nodes id) (λ n. tree.kept n ≡ Some n)
+  pub remains : (id : ℕ) → IfSome (inode_at s.nodes id) (λ n. tree.kept n ≡ Some n)
   pub whole : (t : ℕ) → IfSome (table_at s.files t) (λ table. length table ≡ most_descriptors)
   pub read_ends : (id : ℕ) → ends_of s.files id false ≡ one_if (pipe_view s.files id).read_open
   pub write_ends : (id : ℕ) → ends_of s.files id true ≡ one_if (pipe_view s.files id).write_open

@@ -6,8 +6,8 @@ use Rattle.call_log.specs.declared.errno.Errno.{Errno}
 use Rattle.call_log.specs.declared.errno.Errno.TheVariants.{Ebadf}
 use Rattle.call_log.specs.declared.note.Got.{Got}
 use Rattle.call_log.specs.Errno.{refusal}
-use Rattle.call_log.specs.Notes.{Written}
-use Rattle.call_log.specs.Values.{written_value}
+use Rattle.call_log.specs.Notes.{GotRange}
+use Rattle.call_log.specs.Values.{got_value}
 use Rattle.fd_tables.specs.declared.view.View.{View}
 use Rattle.fd_tables.specs.Files.{OpenFiles, view}
 use Rattle.fd_tables.specs.Calls.{view_or_errno}
@@ -16,7 +16,7 @@ use Rattle.file_calls.specs.declared.call.Call.{Call}
 use Rattle.file_calls.specs.declared.outcome.Outcome.{Outcome}
 use Rattle.file_calls.specs.declared.outcome.Then.{Then}
 use Rattle.file_calls.specs.declared.outcome.Then.TheVariants.{Nothing}
-use Rattle.file_calls.specs.Calls.{MadeBy, after, written_of, Gives}
+use Rattle.file_calls.specs.Calls.{MadeBy, after, got_of, Gives}
 
 pub lt_true : (m n : ℕ) → m < n → nat_lt m n ≡ true
 lt_true m n h = grind (arith, nat_tests)
@@ -37,19 +37,19 @@ is_open (Some w) r v says is = cc
 -- ---- what is made
 
 -- the parts of an outcome
-pub gives_made : (a : Ask) (o : Outcome) (value : ℕ) (got : List Written) (next : Then) → o.value ≡ value → written_of o ≡ got → o.then ≡ next →
+pub gives_made : (a : Ask) (o : Outcome) (value : ℕ) (got : List GotRange) (next : Then) → o.value ≡ value → got_of o ≡ got → o.then ≡ next →
     Gives a (gives a value got (with_files a.rest (after next a.process.table a.rest.files))) o
 gives_made a o value got next v g t = sym (λ i. gives a (v i) (g i) (with_files a.rest (after (t i) a.process.table a.rest.files)))
 
 pub gives_refused : (a : Ask) (o : Outcome) (errno : Errno) → o.value ≡ refusal errno → o.got.items ≡ [] → o.then ≡ Nothing → Gives a (refuses a errno) o
-gives_refused a o errno v g t = gives_made a o (refusal errno) [] Nothing v (ap (map written_value) g) t
+gives_refused a o errno v g t = gives_made a o (refusal errno) [] Nothing v (ap (map got_value) g) t
 
 -- one range of bytes is given
 pub written_one : (got front : List Got) (g : Got) (addr : ℕ) (bytes : List ℕ) → got ≡ front ++ g ∷ [] → front ≡ [] → g.addr ≡ addr → g.bytes.items ≡ bytes →
-    map written_value got ≡ record { addr = addr; bytes = bytes } ∷ []
+    map got_value got ≡ record { addr = addr; bytes = bytes } ∷ []
 written_one got front g addr bytes all none at is =
     let one : got ≡ g ∷ [] = all ∙ ap (λ xs. xs ++ g ∷ []) none in
-    ap (map written_value) one ∙ (λ i. record { addr = at i; bytes = is i } ∷ [])
+    ap (map got_value) one ∙ (λ i. record { addr = at i; bytes = is i } ∷ [])
 
 -- ---- what is asked
 

@@ -16,12 +16,12 @@ use Rattle.fd_tables.specs.declared.view.Target.{Target}
 use Rattle.fd_tables.specs.declared.view.Target.TheVariants.{Console, Node, Pipe}
 use Rattle.fd_tables.specs.Files.{OpenFiles, view}
 use Rattle.machine_world.specs.Asks.{Ask, arg, refuses}
-use Rattle.machine_world.specs.Descriptors.{Listing, record_len, type_of, dirent, is_short, listing, listed, list_row, folder_row, dents_row, getdents_row, written_at}
+use Rattle.machine_world.specs.Descriptors.{Listing, record_len, type_of, dirent, is_short, listing, listed, list_row, folder_row, dents_row, getdents_row, got_at}
 use Rattle.file_calls.specs.declared.call.Call.{Call}
 use Rattle.file_calls.specs.declared.outcome.Outcome.{Outcome}
 use Rattle.file_calls.specs.declared.outcome.Then.{Then}
 use Rattle.file_calls.specs.declared.outcome.Then.TheVariants.{Nothing, Move, Take, TakePipe, MakePipe}
-use Rattle.file_calls.specs.Calls.{MadeBy, written_of, Gives}
+use Rattle.file_calls.specs.Calls.{MadeBy, got_of, Gives}
 use Rattle.file_calls.specs.Outcomes.{GivesRow, IsMove, HasEnds}
 use Rattle.file_calls.specs.Listings.{nothing_listed}
 use Rattle.file_calls.proofs.Asked.{arg_is, at_closed, at_open, gives_made}
@@ -131,14 +131,14 @@ from_least es at from A f alike is = by (cases_lt (length es) at)
 
 module _ (a : Ask) (tree : Inodes) (same_tree : a.rest.tree ≡ tree) (v : View) (left : List Entry) (room : ℕ) where
   pub list_gives : (call : Call) → MadeBy call a → (at : ℕ) → v.at ≡ at → (l : Listing) → is_short room left ≡ false → l ≡ listing tree room at left → (o : Outcome) →
-      o.value ≡ length l.bytes → written_of o ≡ written_at (slice_index call.args 1) l.bytes → o.then ≡ Move (slice_index call.args 0) (at + l.count) →
+      o.value ≡ length l.bytes → got_of o ≡ got_at (slice_index call.args 1) l.bytes → o.then ≡ Move (slice_index call.args 0) (at + l.count) →
       Gives a (list_row a v left room) o
   list_gives call made at at_is l long is o value got moved =
       let all : listing a.rest.tree room v.at left ≡ l = (λ i. listing (same_tree i) room (at_is i) left) ∙ sym is in
       rw long
       (ap (listed a v) all
-      ∙ gives_made a o (length l.bytes) (written_at (arg a 1) l.bytes) (Move (arg a 0) (v.at + l.count)) value
-      (got ∙ ap (λ to. written_at to l.bytes) (sym (arg_is call a made 1)))
+      ∙ gives_made a o (length l.bytes) (got_at (arg a 1) l.bytes) (Move (arg a 0) (v.at + l.count)) value
+      (got ∙ ap (λ to. got_at to l.bytes) (sym (arg_is call a made 1)))
       (moved ∙ sym (λ i. Move (arg_is call a made 0 i) (at_is i + l.count))))
 
 module _ (call : Call) (a : Ask) (made : MadeBy call a) (files : OpenFiles) (same : a.rest.files ≡ files) where

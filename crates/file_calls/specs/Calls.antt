@@ -1,8 +1,8 @@
 -- A call on files as the code has it, and what the code makes of it.
 use Rattle.std.specs.Prelude.{◌≡◌, ℕ, ◌==◌, Bool, true, ◌||◌, List, [], map, Option, Some, None, Result, Ok, Err, ⊤}
 use Rattle.std.specs.declared.alloc.AllocError.{AllocError}
-use Rattle.call_log.specs.Notes.{Written}
-use Rattle.call_log.specs.Values.{written_value}
+use Rattle.call_log.specs.Notes.{GotRange}
+use Rattle.call_log.specs.Values.{got_value}
 use Rattle.call_log.specs.Numbers as numbers
 use Rattle.mem_files.specs.Inodes.{Inodes}
 use Rattle.fd_tables.specs.Files.{OpenFiles}
@@ -79,8 +79,8 @@ after (Take n) table files = taken files n
 after (TakePipe id n) table files = pipe_taken files id n
 after (MakePipe ends cloexec) table files = piped files table ends cloexec
 
-abbrev pub written_of : Outcome → List Written
-written_of o = map written_value o.got.items
+abbrev pub got_of : Outcome → List GotRange
+got_of o = map got_value o.got.items
 
 abbrev pub Gives : Ask → Row → Outcome → Type 0
-Gives a row o = row ≡ gives a o.value (written_of o) (with_files a.rest (after o.then a.process.table a.rest.files))
+Gives a row o = row ≡ gives a o.value (got_of o) (with_files a.rest (after o.then a.process.table a.rest.files))

@@ -1,13 +1,13 @@
 //! getdents64.
 
 ghost use Rattle.std.specs.Prelude.{◌≡◌, ◌+◌, ◌^◌, ◌<◌, ◌≤◌, ◌∷◌, IfOk, MatchOption, map, length, drop, slice_index};
-ghost use Rattle.call_log.specs.Values.{written_value};
+ghost use Rattle.call_log.specs.Values.{got_value};
 ghost use Rattle.mem_files.specs.Inodes.{kind_of, entries_of};
 ghost use Rattle.mem_files.specs.declared.node.Node.TheVariants.{Dir};
 ghost use Rattle.mem_files.specs.Seen.{entry_of};
 ghost use Rattle.fd_tables.specs.declared.view.View.{View};
 ghost use Rattle.machine_world.specs.Asks.{Ask};
-ghost use Rattle.machine_world.specs.Descriptors.{record_len, is_short, listing, list_row, written_at, getdents_row};
+ghost use Rattle.machine_world.specs.Descriptors.{record_len, is_short, listing, list_row, got_at, getdents_row};
 ghost use Rattle.file_calls.specs.Calls.{MadeBy, Gives};
 ghost use Rattle.file_calls.specs.Outcomes.{GivesRow, CanTake, HasEnds, IsMove};
 ghost use Rattle.file_calls.specs.Listings.{listing_value, nothing_listed};
@@ -62,7 +62,7 @@ fn list(alloc: Global, tree: &Tree, node: u32, at: u64, call: &Call) -> Result<O
             fd: call.args[0],
             at: at + u64::from(listing.count),
         },
-        got: written_at(alloc, call.args[1], listing.bytes)?,
+        got: got_at(alloc, call.args[1], listing.bytes)?,
     })
 }
 
@@ -117,8 +117,8 @@ fn fitting(tree: &Tree, node: u32, k: u32, room: usize) -> Option<(&[u8], u32)>
 }
 
 /// One range of bytes, if there are any.
-fn written_at(alloc: Global, addr: u32, bytes: Vec<u8>) -> Result<Vec<Got>, AllocError>
-    ensures { IfOk result (λ got. map written_value got.items ≡ written_at addr bytes.items) }
+fn got_at(alloc: Global, addr: u32, bytes: Vec<u8>) -> Result<Vec<Got>, AllocError>
+    ensures { IfOk result (λ got. map got_value got.items ≡ got_at addr bytes.items) }
 {
     let mut got = Vec::new(alloc);
     if !bytes.is_empty() {

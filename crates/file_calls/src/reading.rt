@@ -4,11 +4,11 @@ ghost use Rattle.std.specs.Prelude.{◌≡◌, ◌+◌, ◌^◌, ◌<◌, ◌≤
 ghost use Rattle.std.specs.List.{range_with_len};
 ghost use Rattle.byte_words.specs.Numbers.{low_first, number_at};
 ghost use Rattle.call_log.specs.Sent.{most_moved, piece_at};
-ghost use Rattle.call_log.specs.Values.{written_value};
+ghost use Rattle.call_log.specs.Values.{got_value};
 ghost use Rattle.mem_files.specs.Inodes.{bytes_of};
 ghost use Rattle.fd_tables.specs.Pipes.{pipe_bytes};
 ghost use Rattle.machine_world.specs.Transfers.{moved_bytes, scattered, read_into, read_row, readv_row};
-ghost use Rattle.file_calls.specs.Calls.{written_of};
+ghost use Rattle.file_calls.specs.Calls.{got_of};
 ghost use Rattle.file_calls.specs.Outcomes.{GivesUnlessWaits, CanTake, HasEnds, span_of};
 ghost use Rattle.file_calls.specs.declared.outcome.Then.TheVariants.{Move, Take, TakePipe};
 
@@ -128,7 +128,7 @@ fn read_into(
 /// Reads the console's input.
 fn console_read(alloc: Global, files: &Files, pieces: &[Piece]) -> Result<Outcome, AllocError>
     ensures value { IfOk result (λ o. o.value ≡ length (moved_bytes (map span_of pieces.now) files.now.open_files.stdin)) }
-    ensures got { IfOk result (λ o. written_of o ≡ scattered (moved_bytes (map span_of pieces.now) files.now.open_files.stdin) (map span_of pieces.now)) }
+    ensures got { IfOk result (λ o. got_of o ≡ scattered (moved_bytes (map span_of pieces.now) files.now.open_files.stdin) (map span_of pieces.now)) }
     ensures then { IfOk result (λ o. o.then ≡ Take (length (moved_bytes (map span_of pieces.now) files.now.open_files.stdin))) }
 {
     let bytes = moved_bytes(pieces, files.stdin_left());
@@ -143,7 +143,7 @@ fn console_read(alloc: Global, files: &Files, pieces: &[Piece]) -> Result<Outcom
 /// Reads from a pipe's front.
 fn pipe_read(alloc: Global, files: &Files, id: u32, pieces: &[Piece]) -> Result<Outcome, AllocError>
     ensures value { IfOk result (λ o. o.value ≡ length (moved_bytes (map span_of pieces.now) (pipe_bytes files.now.open_files id))) }
-    ensures got { IfOk result (λ o. written_of o ≡ scattered (moved_bytes (map span_of pieces.now) (pipe_bytes files.now.open_files id)) (map span_of pieces.now)) }
+    ensures got { IfOk result (λ o. got_of o ≡ scattered (moved_bytes (map span_of pieces.now) (pipe_bytes files.now.open_files id)) (map span_of pieces.now)) }
     ensures then { IfOk result (λ o. o.then ≡ TakePipe id (length (moved_bytes (map span_of pieces.now) (pipe_bytes files.now.open_files id)))) }
 {
     let bytes = files.pipe_front(alloc, id, moved_len(pieces))?;
@@ -164,7 +164,7 @@ fn file_read(
     pieces: &[Piece],
 ) -> Result<Outcome, AllocError>
     ensures value { IfOk result (λ o. o.value ≡ length (moved_bytes (map span_of pieces.now) (drop at bytes.now))) }
-    ensures got { IfOk result (λ o. written_of o ≡ scattered (moved_bytes (map span_of pieces.now) (drop at bytes.now)) (map span_of pieces.now)) }
+    ensures got { IfOk result (λ o. got_of o ≡ scattered (moved_bytes (map span_of pieces.now) (drop at bytes.now)) (map span_of pieces.now)) }
     ensures then { IfOk result (λ o. o.then ≡ Move fd (at + length (moved_bytes (map span_of pieces.now) (drop at bytes.now)))) }
 {
     let left = &bytes[at.min(bytes.len() as u64) as usize..];
@@ -202,7 +202,7 @@ fn moved_len(pieces: &[Piece]) -> usize
 
 /// Fills bytes into pieces in order.
 fn scattered(alloc: Global, bytes: &[u8], pieces: &[Piece]) -> Result<Vec<Got>, AllocError>
-    ensures { IfOk result (λ got. map written_value got.items ≡ scattered bytes.now (map span_of pieces.now)) }
+    ensures { IfOk result (λ got. map got_value got.items ≡ scattered bytes.now (map span_of pieces.now)) }
 {
     let mut got = Vec::new(alloc);
     let mut left = bytes;

@@ -8,7 +8,7 @@ use Rattle.region_watch.specs.declared.mode.Mode.TheVariants.{Halt, GoOn}
 use Rattle.watch_points.specs.declared.point.PointKind.{PointKind}
 use Rattle.std.specs.Option.{option_and_then}
 use Rattle.file_commands.specs.declared.arguments.Format.{Format}
-use Rattle.file_commands.specs.Arguments.{Kept, Invocation, convert, list, check, run, trace, unromfs, replay, demo, least_stack, most_stack, least_programs, most_programs, stack_of, programs_of, pid_of, kind_of_word, only, romfs_of, convert_of, placement_of, watch_of, watched_of, note_of, items_of, kept_of, placed_of, mode_of, run_of, counted_of, process_of, trace_of, format_of_word, replay_of, demo_of, command_of}
+use Rattle.file_commands.specs.Arguments.{KeptItems, Invocation, convert, list, check, run, trace, unromfs, replay, demo, least_stack, most_stack, least_programs, most_programs, stack_of, programs_of, pid_of, kind_of_word, only, romfs_of, convert_of, placement_of, watch_of, watched_of, note_of, items_of, kept_of, placed_of, mode_of, run_of, counted_of, process_of, trace_of, format_of_word, replay_of, demo_of, command_of}
 use Rattle.file_commands.proofs.SpelledNumbers.{is_spelled}
 
 -- what the commands ask for of their numbers
@@ -74,11 +74,11 @@ replay_has (word ∷ file ∷ items ∷ more ∷ words) = tt
 -- ---- `run` and `trace`
 
 module _ (manifest : List ℕ) (log : Bool) (mode : Mode) where
-  told_has : (kind : Kind) (kept : Option Kept) (o : Option (Option PointKind)) → HasRanges (option_map (run manifest log mode kind kept) o)
+  told_has : (kind : Kind) (kept : Option KeptItems) (o : Option (Option PointKind)) → HasRanges (option_map (run manifest log mode kind kept) o)
   told_has kind kept None = tt
   told_has kind kept (Some watch) = tt
 
-  items_have : (kind : Kind) (words : List (List ℕ)) (o : Option Kept) → HasRanges (option_and_then (λ kept. watched_of manifest log mode kind (Some kept) words) o)
+  items_have : (kind : Kind) (words : List (List ℕ)) (o : Option KeptItems) → HasRanges (option_and_then (λ kept. watched_of manifest log mode kind (Some kept) words) o)
   items_have kind words None = tt
   items_have kind words (Some kept) = told_has kind (Some kept) (watch_of words)
 

@@ -11,12 +11,12 @@ use Rattle.watch_points.specs.declared.point.PointKind.{PointKind}
 use Rattle.watch_points.specs.declared.point.PointKind.TheVariants.{Touch, Within}
 use Rattle.file_commands.specs.declared.arguments.Format.{Format}
 use Rattle.file_commands.specs.declared.arguments.Format.TheVariants as format
-use Rattle.file_commands.specs.declared.arguments.Kept.{Kept as KeptArguments}
+use Rattle.file_commands.specs.declared.arguments.KeptItems.{KeptItems as KeptArguments}
 use Rattle.file_commands.specs.declared.arguments.Command.{Command}
 use Rattle.file_commands.specs.declared.arguments.Command.TheVariants as command
 
 -- the number of the load note, from 1, whose space's items a run keeps, and the file that takes them
-pub record Kept : Type 0 where
+pub record KeptItems : Type 0 where
   pub number : ℕ
   pub file : List ℕ
 
@@ -25,7 +25,7 @@ pub data Invocation : Type 0 where
   convert : (elf flt : List ℕ) (stack : ℕ) → Invocation
   list : (flt : List ℕ) → Invocation
   check : (elf : List ℕ) → Invocation
-  run : (manifest : List ℕ) (log : Bool) (mode : Mode) (kind : Kind) (kept : Option Kept) (watch : Option PointKind) → Invocation
+  run : (manifest : List ℕ) (log : Bool) (mode : Mode) (kind : Kind) (kept : Option KeptItems) (watch : Option PointKind) → Invocation
   trace : (manifest : List ℕ) (pid : Option ℕ) (counted : Bool) (kind : Kind) → Invocation
   romfs : (manifest image : List ℕ) → Invocation
   unromfs : (image : List ℕ) → Invocation
@@ -139,11 +139,11 @@ watch_of (option ∷ word ∷ []) = if bytes_eq option (codes "--watch") then op
 watch_of words = None
 
 -- the last words of `run`
-abbrev pub watched_of : (manifest : List ℕ) (log : Bool) (mode : Mode) (kind : Kind) (kept : Option Kept) → List (List ℕ) → Option Invocation
+abbrev pub watched_of : (manifest : List ℕ) (log : Bool) (mode : Mode) (kind : Kind) (kept : Option KeptItems) → List (List ℕ) → Option Invocation
 watched_of manifest log mode kind kept words = option_map (run manifest log mode kind kept) (watch_of words)
 
 -- `N FILE`: a run that goes on behind its first stray access keeps no items
-abbrev pub items_of : Mode → (number file : List ℕ) → Option Kept
+abbrev pub items_of : Mode → (number file : List ℕ) → Option KeptItems
 items_of Halt number file = option_map (λ n. record { number = n; file = file }) (note_of number)
 items_of GoOn number file = None
 
@@ -234,7 +234,7 @@ IsNoRun (Some (demo programs)) = ⊥
 IsNoRun other = Unit {0}
 
 -- the arguments of `--items` that the program read
-abbrev pub kept_value : KeptArguments → Kept
+abbrev pub kept_value : KeptArguments → KeptItems
 kept_value k = record { number = k.number; file = k.file.now }
 
 -- the command that the program read

@@ -41,7 +41,7 @@ pub enum Format {
 
 /// Whose items a run keeps, and where.
 #[derive(Clone, Copy)]
-pub struct Kept<'a> {
+pub struct KeptItems<'a> {
     /// The number of the load note, from 1, whose space it is.
     pub number: u32,
     /// The file that takes the items.
@@ -74,7 +74,7 @@ pub enum Command<'a> {
         log: bool,
         mode: Mode,
         kind: Kind,
-        kept: Option<Kept<'a>>,
+        kept: Option<KeptItems<'a>>,
         watch: Option<PointKind>,
     },
     /// `trace MANIFEST`; with `--pid P` the calls of that process alone are shown, with `--count` the shown
@@ -222,13 +222,13 @@ fn read_watch(words: &[String]) -> Option<Option<PointKind>>
 }
 
 /// The words behind `--items`: a run that goes on behind its first stray access keeps no items.
-fn read_items<'a>(mode: Mode, number: &str, file: &'a str) -> Option<Kept<'a>>
+fn read_items<'a>(mode: Mode, number: &str, file: &'a str) -> Option<KeptItems<'a>>
     ensures { option_map kept_value result ≡ items_of mode number.now file.now }
 {
     match mode {
         Mode::Halt => {
             let number = read_number(number, LEAST_NOTE, MOST_NOTE)?;
-            Some(Kept { number, file })
+            Some(KeptItems { number, file })
         }
         Mode::GoOn => None,
     }

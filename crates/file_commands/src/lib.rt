@@ -23,7 +23,7 @@ pub mod texts;
 mod unromfs;
 
 pub use answer::Answer;
-pub use arguments::{Command, DEFAULT_STACK, Format, Kept, read_arguments};
+pub use arguments::{Command, DEFAULT_STACK, Format, KeptItems, read_arguments};
 pub use check::check_file;
 pub use convert::convert_file;
 pub use delivery::deliver;

@@ -10,7 +10,7 @@ use Rattle.rv32im_step.specs.declared.regs.Regs.{Regs}
 use Rattle.rv32im_step.specs.Memory.{loaded, stored}
 use Rattle.rv32im_step.specs.Meaning.{effect, meaning}
 use Rattle.rv32im_step.specs.Registers.{register, with_register}
-use Rattle.call_log.specs.Notes.{Written, CallEntry}
+use Rattle.call_log.specs.Notes.{GotRange, CallEntry}
 use Rattle.call_log.specs.Sent.{sent, read_span}
 use Rattle.mmap_rules.specs.declared.mapping.Range.{Range}
 use Rattle.mmap_rules.specs.Space.{may_use}
@@ -51,7 +51,7 @@ solo word args number = record { stack = record { pid = 7; regs = regs args numb
 abbrev calls : List ℕ → ℕ → Solo
 calls args number = solo ecall args number
 
-abbrev entry : List ℕ → ℕ → ℕ → List Written → CallEntry
+abbrev entry : List ℕ → ℕ → ℕ → List GotRange → CallEntry
 entry args number reply got = record { pid = 7; call = number; args = args; sent = []; reply = reply; got = got }
 
 abbrev item : List ℕ → ℕ → ℕ → Item

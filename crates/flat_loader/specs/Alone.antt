@@ -8,7 +8,7 @@ use Rattle.rv32im_step.specs.declared.regs.Regs.{Regs}
 use Rattle.rv32im_step.specs.Registers.{register, with_register, setting}
 use Rattle.rv32im_step.specs.Meaning.{Meaning, next, call, trap, refused, meaning}
 use Rattle.call_log.specs.Flags.{has_flag}
-use Rattle.call_log.specs.Notes.{Written, CallEntry}
+use Rattle.call_log.specs.Notes.{GotRange, CallEntry}
 use Rattle.call_log.specs.Sent.{Span, sent}
 use Rattle.call_log.specs.Numbers as numbers
 use Rattle.mmap_rules.specs.declared.mapping.Range.{Range}
@@ -68,7 +68,7 @@ abbrev pub replied : Regs → ℕ → Regs
 replied regs value = setting regs 10 value
 
 -- each range of output must be writable, in order
-abbrev pub put_got : Bytes → (ℕ → Bool) → List Written → Result Bytes Span
+abbrev pub put_got : Bytes → (ℕ → Bool) → List GotRange → Result Bytes Span
 put_got m w [] = Ok m
 put_got m w (got ∷ gots) =
     if may_use w got.addr (length got.bytes) then put_got (with_bytes m got.addr got.bytes) w gots

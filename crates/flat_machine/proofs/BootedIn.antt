@@ -11,7 +11,7 @@ use Rattle.byte_words.proofs.ByteArrays.{byte_before, byte_past}
 use Rattle.region_watch.specs.Private.{physical}
 use Rattle.mem_files.specs.Inodes.{Inodes}
 use Rattle.fd_tables.specs.Files.{OpenFiles}
-use Rattle.physical_turns.specs.Physical.{Physical, showing, first_memory, opening}
+use Rattle.physical_turns.specs.Physical.{Physical, showing, first_memory, opening_in}
 use Rattle.kept_parts.specs.Kept.{Kept, nothing_yet}
 use Rattle.region_watch.specs.Private.{in_pages}
 use Rattle.kept_parts.specs.Stands.{About, live_spaces, world_of}
@@ -57,8 +57,8 @@ lays_none headers a pages tree files keep =
 
 -- ---- behind the last
 
-pub opened : (headers : List (List ℕ)) (a : About) (k : Kept) → physical k.mem ≡ first_memory headers (world_of a k) → physical_of headers a k ≡ opening headers (world_of a k)
-unfolding physical_of opening
+pub opened : (headers : List (List ℕ)) (a : About) (k : Kept) → physical k.mem ≡ first_memory headers (world_of a k) → physical_of headers a k ≡ opening_in headers (world_of a k)
+unfolding physical_of opening_in
 opened headers a k laid =
     let old : Physical = record { world = world_of a k; memory = physical k.mem; headers = headers } in
     let new : Bytes → Physical = λ m. record { world = showing m (world_of a k); memory = m; headers = headers } in

@@ -11,7 +11,7 @@ use Rattle.machine_world.specs.Families.{MayRun}
 use Rattle.machine_world.specs.Event.{Outcome, went, strays, full, idle, stray_in, stray, event, called, died}
 use Rattle.machine_world.specs.Courses.{StandsAt}
 use Rattle.machine_world.proofs.Signals.{trap_small}
-use Rattle.physical_turns.specs.Physical.{Physical, in_memory, After as Outcome_in, after as goes, no_room, nobody, has_stray, first_stray, with_stray, physical_event, carried_out, died_in, outside}
+use Rattle.physical_turns.specs.Physical.{Physical, in_memory, After as Outcome_in, after as goes, no_room, nobody, has_stray, first_stray_in, with_stray, event_in, carried_out, died_in, outside}
 use Rattle.physical_turns.specs.Courses.{StandsIn}
 use Rattle.physical_turns.proofs.Moves.{noted_unstrayed, first_strays, event_in_carried, event_in_calm, carried_trapped, carried_refused}
 use Rattle.kept_parts.specs.declared.reach.Reach.{Reach}
@@ -39,11 +39,11 @@ same_both true o = refl
 same_both false o = refl
 
 -- an event that goes in the private spaces doesn't stray
-calm : (p : Physical) (pid : ℕ) (o : Outcome) → event p.world pid ≡ o → stray_in o ≡ None → first_stray p pid ≡ None
+calm : (p : Physical) (pid : ℕ) (o : Outcome) → event p.world pid ≡ o → stray_in o ≡ None → first_stray_in p pid ≡ None
 unfolding stray
 calm p pid o is none = ap (λ (x : Option Access). if has_stray p.world.notes then None else x) (ap stray_in is ∙ none) ∙ same_both (has_stray p.world.notes) None
 
-strays_first : (p : Physical) (pid : ℕ) (access : Access) → has_stray p.world.notes ≡ false → event p.world pid ≡ strays access → first_stray p pid ≡ Some access
+strays_first : (p : Physical) (pid : ℕ) (access : Access) → has_stray p.world.notes ≡ false → event p.world pid ≡ strays access → first_stray_in p pid ≡ Some access
 unfolding stray
 strays_first p pid access none is = first_strays p pid access none (ap stray_in is)
 
@@ -119,7 +119,7 @@ module _ (law : CallsAreEvents) (headers : List (List ℕ)) (a : About) (old new
   abbrev here : Physical
   here = physical_of headers a old
 
-  is_event : called_on here pid ≡ physical_event here pid
+  is_event : called_on here pid ≡ event_in here pid
   unfolding physical_of world_of
   is_event = law here pid stands_in stands
 
@@ -128,29 +128,29 @@ module _ (law : CallsAreEvents) (headers : List (List ℕ)) (a : About) (old new
   still_noted None may = let s = stands_in in still_in here pid s.process s.space s.lives s.has may
   still_noted (Some access) may = let s = stands_in in still_in (with_stray pid (Some access) here) pid s.process s.space s.lives s.has may
 
-  still_called : CanRun old.procs pid → StillIn pid (physical_event here pid)
-  still_called ready = subst (StillIn pid) (sym (event_in_carried here pid)) (still_noted (first_stray here pid) (may_in headers a old new pid ready))
+  still_called : CanRun old.procs pid → StillIn pid (event_in here pid)
+  still_called ready = subst (StillIn pid) (sym (event_in_carried here pid)) (still_noted (first_stray_in here pid) (may_in headers a old new pid ready))
 
   abbrev noted_parts : Kept
   noted_parts = with_range pid (first_range here pid) old
 
-  goes_as : (s t : Served) → s ≡ t → ServesOn headers a old new pid (Ok s) → GoesIn headers a (physical_event here pid) noted_parts new pid t
+  goes_as : (s t : Served) → s ≡ t → ServesOn headers a old new pid (Ok s) → GoesIn headers a (event_in here pid) noted_parts new pid t
   goes_as s t same x =
       subst (λ (o : Outcome_in). GoesIn headers a o noted_parts new pid t) is_event (subst (λ (u : Served). GoesIn headers a (called_on here pid) noted_parts new pid u) same x)
 
   pub call_replied_in : CanRun old.procs pid → (s : Served) → s ≡ served.Replied → ServesOn headers a old new pid (Ok s) → CarriedWithin headers a old new pid (Ok after.GoesOn)
-  call_replied_in ready s same x = replied_in headers a old new pid noted_parts (physical_event here pid) (still_called ready) (goes_as s served.Replied same x)
+  call_replied_in ready s same x = replied_in headers a old new pid noted_parts (event_in here pid) (still_called ready) (goes_as s served.Replied same x)
 
   pub call_turn_ends_in : (s : Served) → (s ≡ served.TurnEnds) ⊎ (s ≡ served.Waits) ⊎ (s ≡ served.Ended) → ServesOn headers a old new pid (Ok s) → CarriedWithin headers a old new pid (Ok after.TurnEnds)
-  call_turn_ends_in s (inl same) x = turn_ends_in headers a old new pid noted_parts (physical_event here pid) (goes_as s served.TurnEnds same x)
-  call_turn_ends_in s (inr (inl same)) x = waits_in headers a old new pid noted_parts (physical_event here pid) (goes_as s served.Waits same x)
-  call_turn_ends_in s (inr (inr same)) x = ended_in headers a old new pid noted_parts (physical_event here pid) (goes_as s served.Ended same x)
+  call_turn_ends_in s (inl same) x = turn_ends_in headers a old new pid noted_parts (event_in here pid) (goes_as s served.TurnEnds same x)
+  call_turn_ends_in s (inr (inl same)) x = waits_in headers a old new pid noted_parts (event_in here pid) (goes_as s served.Waits same x)
+  call_turn_ends_in s (inr (inr same)) x = ended_in headers a old new pid noted_parts (event_in here pid) (goes_as s served.Ended same x)
 
   pub call_full_in : (s : Served) → s ≡ served.LogFull → ServesOn headers a old new pid (Ok s) → CarriedWithin headers a old new pid (Ok after.LogFull)
-  call_full_in s same x = full_in headers a old new pid noted_parts (physical_event here pid) (goes_as s served.LogFull same x)
+  call_full_in s same x = full_in headers a old new pid noted_parts (event_in here pid) (goes_as s served.LogFull same x)
 
   pub call_never_strays : (s : Served) (access : Access) → s ≡ served.Stray access → ServesOn headers a old new pid (Ok s) → ⊥
-  call_never_strays s access same x = never_strays headers a old new pid noted_parts (physical_event here pid) access (goes_as s (served.Stray access) same x)
+  call_never_strays s access same x = never_strays headers a old new pid noted_parts (event_in here pid) access (goes_as s (served.Stray access) same x)
 
 -- up to the first stray access it is the call of the private spaces, where that doesn't stray
 first_answered : (a : About) (old new : Kept) (pid : ℕ) (o : Outcome) (s : Served) → stray_in o ≡ None → ServesFirst a o old new pid (Ok s) → Answered a o old new pid s
@@ -171,11 +171,11 @@ module _ (headers : List (List ℕ)) (a : About) (reach : Reach) (old : Kept) (p
   from = physical_of headers a old
 
   -- it isn't the run's first stray access where it goes in the private spaces
-  first_none : (o : Outcome) → (reach ≡ Own → (event (world_of a old) pid ≡ o) × (stray_in o ≡ None)) → first_stray from pid ≡ None
+  first_none : (o : Outcome) → (reach ≡ Own → (event (world_of a old) pid ≡ o) × (stray_in o ≡ None)) → first_stray_in from pid ≡ None
   unfolding physical_of
   first_none o goes_own = by reach refl
     where
-      by : (r : Reach) → reach ≡ r → first_stray from pid ≡ None
+      by : (r : Reach) → reach ≡ r → first_stray_in from pid ≡ None
       by Own is = let x = goes_own is in calm from pid o x.0 x.1
       by Whole is = noted_unstrayed from pid (notes_in headers a old old pid ∙ strayed ∙ ap is_whole is)
 
@@ -193,7 +193,7 @@ module _ (headers : List (List ℕ)) (a : About) (reach : Reach) (old : Kept) (p
       let s = trap_stands reach from pid stop signal at stands_in in
       let none = first_none (died (world_of a old) pid signal)
       (λ own. (event_died (world_of a old) pid signal (subst (StandsAt (world_of a old) pid) at (stands own)), died_calm (died (world_of a old) pid signal) new dies)) in
-      let is : physical_event from pid ≡ died_in from pid signal = event_in_calm from pid none ∙ carried_trapped from pid s.process s.space s.lives s.has signal s.means in
+      let is : event_in from pid ≡ died_in from pid signal = event_in_calm from pid none ∙ carried_trapped from pid s.process s.space s.lives s.has signal s.means in
       subst (λ (o : Outcome_in). CarriedIn headers a o old new pid (Ok after.TurnEnds)) (sym is) (died_ends_in headers a old new pid (died_in from pid signal) memory)
 
   -- ---- an access that is refused
@@ -208,7 +208,7 @@ module _ (headers : List (List ℕ)) (a : About) (reach : Reach) (old : Kept) (p
   unfolding physical_of
   refused_in access new at r strayed_so memory = by reach refl stands_in
     where
-      never : (t : Result After AllocError) → CarriedIn headers a (died_in from pid outside) old new pid t → CarriedIn headers a (physical_event from pid) old new pid t → CarriedWithin headers a old new pid t
+      never : (t : Result After AllocError) → CarriedIn headers a (died_in from pid outside) old new pid t → CarriedIn headers a (event_in from pid) old new pid t → CarriedWithin headers a old new pid t
       never (Ok (after.Strays seen)) x y = absurd (died_never new (died_in from pid outside) seen x)
       never (Ok after.GoesOn) x y = y
       never (Ok after.TurnEnds) x y = y
@@ -223,7 +223,7 @@ module _ (headers : List (List ℕ)) (a : About) (reach : Reach) (old : Kept) (p
       by Whole is x =
           let s : StandsIn from pid (Refused access) = subst (StandsWithin Whole from pid) at x in
           let none = noted_unstrayed from pid (notes_in headers a old old pid ∙ strayed ∙ ap is_whole is) in
-          let same : physical_event from pid ≡ died_in from pid outside = event_in_calm from pid none ∙ carried_refused from pid s.process s.space s.lives s.has access s.means in
+          let same : event_in from pid ≡ died_in from pid outside = event_in_calm from pid none ∙ carried_refused from pid s.process s.space s.lives s.has access s.means in
           never r (memory is) (subst (λ (o : Outcome_in). CarriedIn headers a o old new pid r) (sym same) (memory is))
 
 pub trap_fits_in : (reach : Reach) (a : About) (old : Kept) (pid : ℕ) (stop : Stop) (signal : ℕ) → stop ≡ Trap signal → StandsWithin reach (physical_of [] a old) pid stop → signal < 2 ^ 8

@@ -14,7 +14,7 @@ use Rattle.vfork_exec.specs.Procs.{CanRun}
 use Rattle.machine_world.specs.World.{World}
 use Rattle.machine_world.specs.Event.{Outcome, went, strays, full, idle, noted, stray_in, stray, event}
 use Rattle.machine_world.specs.Turns.{seen_of}
-use Rattle.physical_turns.specs.Physical.{Physical, After as Outcome_in, after as goes, no_room, nobody, has_stray, first_stray, with_stray, physical_event, physical_turn, Walk}
+use Rattle.physical_turns.specs.Physical.{Physical, After as Outcome_in, after as goes, no_room, nobody, has_stray, first_stray_in, with_stray, event_in, turn_in, WalkIn}
 use Rattle.physical_turns.specs.Courses.{LeadsIn, StandsIn}
 use Rattle.physical_turns.specs.After.{AfterHas}
 use Rattle.physical_turns.specs.Growth.{Adds}
@@ -121,7 +121,7 @@ module _ (headers : List (List ℕ)) (a : About) (old new : Kept) (pid : ℕ) wh
   abbrev to : Physical
   to = physical_of headers (later 1 a) new
 
-  event_by : (o : Outcome_in) → physical_event from pid ≡ o → (r : Result After AllocError) → CarriedIn headers a o old new pid r → EventIn headers a old new pid r
+  event_by : (o : Outcome_in) → event_in from pid ≡ o → (r : Result After AllocError) → CarriedIn headers a o old new pid r → EventIn headers a old new pid r
   event_by o is (Err error) x = x
   event_by (goes now over) is (Ok after.GoesOn) x =
       (subst (λ (p : Physical). LeadsIn pid from 1 p) x.0 (leads_in_event pid from now (is ∙ ap (λ (b : Bool). goes now b) x.1)), x.2)
@@ -138,11 +138,11 @@ module _ (headers : List (List ℕ)) (a : About) (old new : Kept) (pid : ℕ) wh
   event_by nobody is (Ok after.LogFull) x = absurd x
 
   -- over all of memory
-  pub event_whole : (r : Result After AllocError) → CarriedIn headers a (physical_event from pid) old new pid r → EventIn headers a old new pid r
-  event_whole r x = event_by (physical_event from pid) refl r x
+  pub event_whole : (r : Result After AllocError) → CarriedIn headers a (event_in from pid) old new pid r → EventIn headers a old new pid r
+  event_whole r x = event_by (event_in from pid) refl r x
 
   -- so within reach, where it doesn't stray
-  pub carried_whole : (r : After) → NotStray r → CarriedWithin headers a old new pid (Ok r) → CarriedIn headers a (physical_event from pid) old new pid (Ok r)
+  pub carried_whole : (r : After) → NotStray r → CarriedWithin headers a old new pid (Ok r) → CarriedIn headers a (event_in from pid) old new pid (Ok r)
   carried_whole after.GoesOn other x = x
   carried_whole after.TurnEnds other x = x
   carried_whole after.LogFull other x = x
@@ -152,7 +152,7 @@ module _ (headers : List (List ℕ)) (a : About) (old new : Kept) (pid : ℕ) wh
   event_reach r other x = event_whole (Ok r) (carried_whole r other x)
 
   -- once a stray access was noted it never strays
-  whole_by : (o : Outcome_in) → physical_event from pid ≡ o → has_stray old.notes ≡ true → (r : Result After AllocError) → CarriedWithin headers a old new pid r → CarriedIn headers a (physical_event from pid) old new pid r
+  whole_by : (o : Outcome_in) → event_in from pid ≡ o → has_stray old.notes ≡ true → (r : Result After AllocError) → CarriedWithin headers a old new pid r → CarriedIn headers a (event_in from pid) old new pid r
   unfolding physical_of world_of
   whole_by o is was (Ok (after.Strays access)) x = absurd (let none : None ≡ Some access = sym (noted_unstrayed from pid was) ∙ x.0 in cc)
   whole_by o is was (Ok after.GoesOn) x = x
@@ -160,8 +160,8 @@ module _ (headers : List (List ℕ)) (a : About) (old new : Kept) (pid : ℕ) wh
   whole_by o is was (Ok after.LogFull) x = x
   whole_by o is was (Err error) x = x
 
-  pub carried_noted : has_stray old.notes ≡ true → (r : Result After AllocError) → CarriedWithin headers a old new pid r → CarriedIn headers a (physical_event from pid) old new pid r
-  carried_noted was r x = whole_by (physical_event from pid) refl was r x
+  pub carried_noted : has_stray old.notes ≡ true → (r : Result After AllocError) → CarriedWithin headers a old new pid r → CarriedIn headers a (event_in from pid) old new pid r
+  carried_noted was r x = whole_by (event_in from pid) refl was r x
 
   pub err_in : (r : Result After AllocError) → IsErr r → new ≡ old → EventIn headers a old new pid r
   err_in (Ok done) is same = absurd cc
@@ -170,7 +170,7 @@ module _ (headers : List (List ℕ)) (a : About) (old new : Kept) (pid : ℕ) wh
   -- what it adds
   event_adds : (r : After) → EventIn headers a old new pid (Ok r) → Adds (world_of a old) (world_of a new)
   unfolding physical_of world_of
-  event_adds after.GoesOn x = subst (λ (w : Walk). Adds from.world w.now.world) (turn_in_used pid from to 1 x.0) (turns_add 1 pid from)
+  event_adds after.GoesOn x = subst (λ (w : WalkIn). Adds from.world w.now.world) (turn_in_used pid from to 1 x.0) (turns_add 1 pid from)
   event_adds after.TurnEnds x = subst (AfterHas (Adds from.world)) x (events_add from pid)
   event_adds after.LogFull x = subst (AfterHas (Adds from.world)) x (events_add from pid)
   event_adds (after.Strays access) x = absurd x
@@ -192,7 +192,7 @@ module _ (headers : List (List ℕ)) (a : About) (old new : Kept) (pid : ℕ) wh
   abbrev now_in : Physical
   now_in = physical_of headers a old
 
-  noted_adds : (access : Access) → (o : Outcome_in) → physical_event (with_stray pid (Some access) now_in) pid ≡ o → (r : After) → NotStray r → CarriedIn headers a o old new pid (Ok r)
+  noted_adds : (access : Access) → (o : Outcome_in) → event_in (with_stray pid (Some access) now_in) pid ≡ o → (r : After) → NotStray r → CarriedIn headers a o old new pid (Ok r)
       → Adds (noted (stray_note pid (seen_of access)) (world_of a old)) (world_of a new)
   unfolding physical_of world_of
   noted_adds access (goes now over) is after.GoesOn other x =
@@ -214,14 +214,14 @@ module _ (headers : List (List ℕ)) (a : About) (old new : Kept) (pid : ℕ) wh
   noted_adds access nobody is (after.Strays seen) other x = absurd x
   noted_adds access nobody is after.LogFull other x = absurd x
 
-  first_adds : (access : Access) → event (world_of a old) pid ≡ strays access → has_stray old.notes ≡ false → (r : After) → NotStray r → CarriedIn headers a (physical_event now_in pid) old new pid (Ok r)
+  first_adds : (access : Access) → event (world_of a old) pid ≡ strays access → has_stray old.notes ≡ false → (r : After) → NotStray r → CarriedIn headers a (event_in now_in pid) old new pid (Ok r)
       → Adds (noted (stray_note pid (seen_of access)) (world_of a old)) (world_of a new)
   unfolding physical_of world_of stray
   first_adds access is quiet r other x =
       let first = first_strays now_in pid access quiet (ap stray_in is) in
       let v = with_stray pid (Some access) now_in in
       let at : StraysIn pid now_in v = record { access = access; first = first; noted = refl } in
-      noted_adds access (physical_event now_in pid) (behind_is pid now_in v at ∙ sym (before_is pid now_in v at)) r other x
+      noted_adds access (event_in now_in pid) (behind_is pid now_in v at ∙ sym (before_is pid now_in v at)) r other x
 
   past_strays : (access : Access) (r : After) → NotStray r → Adds (noted (stray_note pid (seen_of access)) (world_of a old)) (world_of a new) → CarriedOrPast a (strays access) old new pid (Ok r)
   past_strays access (after.Strays seen) other adds = absurd (other seen refl)
@@ -229,14 +229,14 @@ module _ (headers : List (List ℕ)) (a : About) (old new : Kept) (pid : ℕ) wh
   past_strays access after.TurnEnds other adds = adds
   past_strays access after.LogFull other adds = adds
 
-  past_by : (o : Outcome) → event (world_of a old) pid ≡ o → has_stray old.notes ≡ false → (r : After) → NotStray r → CarriedIn headers a (physical_event now_in pid) old new pid (Ok r)
+  past_by : (o : Outcome) → event (world_of a old) pid ≡ o → has_stray old.notes ≡ false → (r : After) → NotStray r → CarriedIn headers a (event_in now_in pid) old new pid (Ok r)
       → (stray_in o ≡ None → Carried a o old new pid (Ok r)) → CarriedOrPast a o old new pid (Ok r)
   past_by (strays access) is quiet r other memory carried = past_strays access r other (first_adds access is quiet r other memory)
   past_by (went now t) is quiet r other memory carried = carried refl
   past_by full is quiet r other memory carried = carried refl
   past_by idle is quiet r other memory carried = carried refl
 
-  pub past_event_of : has_stray old.notes ≡ false → (r : After) → NotStray r → CarriedIn headers a (physical_event now_in pid) old new pid (Ok r)
+  pub past_event_of : has_stray old.notes ≡ false → (r : After) → NotStray r → CarriedIn headers a (event_in now_in pid) old new pid (Ok r)
       → (stray_in (event (world_of a old) pid) ≡ None → Carried a (event (world_of a old) pid) old new pid (Ok r)) → CarriedOrPast a (event (world_of a old) pid) old new pid (Ok r)
   past_event_of quiet r other memory carried = past_by (event (world_of a old) pid) refl quiet r other memory carried
 
@@ -263,18 +263,18 @@ module _ (point : PointKind) (spans : List Span) (pid : ℕ) where
     abbrev behind : Physical
     behind = physical_of headers (later 1 a) new
 
-    none_found : (o : Outcome_in) → physical_event at pid ≡ o → ((n : ℕ) → T (suc n) at ≡ []) → (left : ℕ) → found ≡ with_hits found (T (suc left) at)
+    none_found : (o : Outcome_in) → event_in at pid ≡ o → ((n : ℕ) → T (suc n) at ≡ []) → (left : ℕ) → found ≡ with_hits found (T (suc left) at)
     none_found o is none left = sym (with_hits-nil found) ∙ ap (with_hits found) (sym (none left))
 
-    hits_by : (o : Outcome_in) → physical_event at pid ≡ o → (r : Result After AllocError) → CarriedIn headers a o old new pid r → EventHits T found found at behind r
+    hits_by : (o : Outcome_in) → event_in at pid ≡ o → (r : Result After AllocError) → CarriedIn headers a o old new pid r → EventHits T found found at behind r
     hits_by o is (Err error) x = refl
     hits_by (goes now over) is (Ok after.GoesOn) x = λ left.
         let sum : suc left ≡ 1 + left = omega arith in
-        let is_on : physical_event at pid ≡ goes now false = is ∙ ap (λ (b : Bool). goes now b) x.1 in
+        let is_on : event_in at pid ≡ goes now false = is ∙ ap (λ (b : Bool). goes now b) x.1 in
         ap (with_hits found) (sym (quiet_next_in point spans pid left at stop stands (goes now false) is_on ∙ ap (T left) x.0))
         ∙ ap (λ (n : ℕ). with_hits found (T n at)) sum
     hits_by (goes now over) is (Ok after.TurnEnds) x =
-        let is_over : physical_event at pid ≡ goes now true = is ∙ ap (λ (b : Bool). goes now b) x.1 in
+        let is_over : event_in at pid ≡ goes now true = is ∙ ap (λ (b : Bool). goes now b) x.1 in
         none_found (goes now over) is (λ n. quiet_next_in point spans pid n at stop stands (goes now true) is_over)
     hits_by (goes now over) is (Ok (after.Strays access)) x = absurd x
     hits_by (goes now over) is (Ok after.LogFull) x = absurd x
@@ -287,8 +287,8 @@ module _ (point : PointKind) (spans : List Span) (pid : ℕ) where
     hits_by nobody is (Ok (after.Strays access)) x = absurd x
     hits_by nobody is (Ok after.LogFull) x = absurd x
 
-    pub hits_whole : (r : Result After AllocError) → CarriedIn headers a (physical_event at pid) old new pid r → EventHits T found found at behind r
-    hits_whole r x = hits_by (physical_event at pid) refl r x
+    pub hits_whole : (r : Result After AllocError) → CarriedIn headers a (event_in at pid) old new pid r → EventHits T found found at behind r
+    hits_whole r x = hits_by (event_in at pid) refl r x
 
   -- where nothing was carried out none was found
   pub none_hit_by : (before found : Found) (old new : Physical) → HitsLead T before found old 0 new → found ≡ before
@@ -319,7 +319,7 @@ firm_whole Whole p pid stop is s = s
 
 -- ---- behind the note of the run's first stray access
 
-module _ (headers : List (List ℕ)) (a : About) (old mid : Kept) (pid : ℕ) (access : Access) (first : first_stray (physical_of headers a old) pid ≡ Some access) (note : mid ≡ with_range pid (Some access) old) where
+module _ (headers : List (List ℕ)) (a : About) (old mid : Kept) (pid : ℕ) (access : Access) (first : first_stray_in (physical_of headers a old) pid ≡ Some access) (note : mid ≡ with_range pid (Some access) old) where
   abbrev before_it : Physical
   before_it = physical_of headers a old
 
@@ -341,7 +341,7 @@ module _ (headers : List (List ℕ)) (a : About) (old mid : Kept) (pid : ℕ) (a
   unfolding physical_of
   leads_behind can now x left =
       let sum : 1 + left ≡ suc left = omega arith in
-      ap (λ (n : ℕ). physical_turn n pid before_it) sum ∙ strays_on pid before_it behind_it strays_here (may_run a mid pid can) left ∙ ap (λ (n : ℕ). physical_turn n pid behind_it) (sym sum) ∙ x left
+      ap (λ (n : ℕ). turn_in n pid before_it) sum ∙ strays_on pid before_it behind_it strays_here (may_run a mid pid can) left ∙ ap (λ (n : ℕ). turn_in n pid behind_it) (sym sum) ∙ x left
 
   pub event_behind : CanRun mid.procs pid → (new : Kept) (r : After) → EventIn headers a mid new pid (Ok r) → EventIn headers a old new pid (Ok r)
   event_behind can new after.GoesOn x = (leads_behind can (physical_of headers (later 1 a) new) x.0, x.1)
@@ -398,7 +398,7 @@ pub on_ok : {A E : Type 0} (P : Type 0) (r : Result A E) → P → IfOk r (λ x.
 on_ok P (Ok x) is = is
 on_ok P (Err error) is = tt
 
-first_quiet_of : (headers : List (List ℕ)) (a : About) (old : Kept) (pid : ℕ) (access : Access) → first_stray (physical_of headers a old) pid ≡ Some access → has_stray old.notes ≡ false
+first_quiet_of : (headers : List (List ℕ)) (a : About) (old : Kept) (pid : ℕ) (access : Access) → first_stray_in (physical_of headers a old) pid ≡ Some access → has_stray old.notes ≡ false
 unfolding physical_of world_of
 first_quiet_of headers a old pid access first = first_is_quiet (physical_of headers a old) pid access first
 

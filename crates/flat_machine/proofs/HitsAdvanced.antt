@@ -17,8 +17,8 @@ use Rattle.machine_world.specs.World.{LiveSpace}
 use Rattle.machine_world.specs.Turns.{Walk, turn}
 use Rattle.machine_world.specs.Courses.{Leads}
 use Rattle.machine_world.proofs.TurnLaws.{turn_used}
-use Rattle.physical_turns.specs.Physical.{Physical, in_memory, physical_turn, has_stray}
-use Rattle.physical_turns.specs.Physical.{Walk as Walk_in}
+use Rattle.physical_turns.specs.Physical.{Physical, in_memory, turn_in, has_stray}
+use Rattle.physical_turns.specs.Physical.{WalkIn}
 use Rattle.physical_turns.specs.Wider.{IsWithin}
 use Rattle.physical_turns.specs.Courses.{LeadsIn}
 use Rattle.physical_turns.proofs.TurnsIn.{turn_in_used}
@@ -129,8 +129,8 @@ module _ (kind : PointKind) (spans : List Span) where
       in_hits d leads n =
           let s : LiveSpace = record { id = e.value.space; space = private_of k.mem h } in
           run_hits_in kind spans pid done old (process_of e) s (lives_old headers a k pid count e h table now regs done stop r) (has_old headers a k pid count e h table now regs done stop r) d.whole n
-          ∙ ap (λ (xs : List Hit). xs ++ turn_hits_in kind spans pid n (physical_turn done pid old).now) (sym d.same)
-          ∙ ap (λ (w : Walk_in). hits_in kind spans pid asks ++ turn_hits_in kind spans pid n w.now) (turn_in_used pid old (physical_of headers (later done a) new) done leads)
+          ∙ ap (λ (xs : List Hit). xs ++ turn_hits_in kind spans pid n (turn_in done pid old).now) (sym d.same)
+          ∙ ap (λ (w : WalkIn). hits_in kind spans pid asks ++ turn_hits_in kind spans pid n w.now) (turn_in_used pid old (physical_of headers (later done a) new) done leads)
 
 -- ---- as the code has it
 

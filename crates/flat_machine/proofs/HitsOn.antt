@@ -17,8 +17,8 @@ use Rattle.machine_world.specs.Turns.{Walk, seen_of, turn}
 use Rattle.machine_world.specs.Courses.{StandsAt, moved}
 use Rattle.machine_world.proofs.States.{with_regs, with_own, lives_moved, has_moved, event_is}
 use Rattle.machine_world.proofs.TurnLaws.{turn_next}
-use Rattle.physical_turns.specs.Physical.{Physical, After, after as goes, in_memory, shown_space, moved_in, effect_in, next_meaning, carried_out, first_stray, with_stray, physical_event, physical_turn}
-use Rattle.physical_turns.specs.Physical.{Walk as Walk_in}
+use Rattle.physical_turns.specs.Physical.{Physical, After, after as goes, in_memory, shown_space, moved_in, effect_in, next_meaning, carried_out, first_stray_in, with_stray, event_in, turn_in}
+use Rattle.physical_turns.specs.Physical.{WalkIn}
 use Rattle.physical_turns.specs.Courses.{StandsIn}
 use Rattle.physical_turns.proofs.Moves.{lives_in, has_in, event_in_is, event_in_strays, carried_is}
 use Rattle.physical_turns.proofs.TurnsIn.{turn_in_next}
@@ -141,7 +141,7 @@ module _ (kind : PointKind) (spans : List Span) (pid : ℕ) where
   unfolding event_asked_in
   asked_is_in p q s lives has = rw (lives, has) refl
 
-  pub hits_next_in : (n : ℕ) (p : Physical) (o : After) → physical_event p pid ≡ o → T_in (suc n) p ≡ hits_in kind spans pid (event_asked_in p pid) ++ behind_in (T_in n) o
+  pub hits_next_in : (n : ℕ) (p : Physical) (o : After) → event_in p pid ≡ o → T_in (suc n) p ≡ hits_in kind spans pid (event_asked_in p pid) ++ behind_in (T_in n) o
   unfolding turn_hits_in
   hits_next_in n p o is = ap (λ (x : After). hits_in kind spans pid (event_asked_in p pid) ++ behind_in (turn_hits_in kind spans pid n) x) is
 
@@ -151,14 +151,14 @@ module _ (kind : PointKind) (spans : List Span) (pid : ℕ) where
   quiet_in p (Trap signal) s = ap (hits_in kind spans pid) (asked_is_in p s.process s.space s.lives s.has) ∙ trapped_quiet kind spans pid s.process.regs p.memory (in_memory p.world) signal s.means
   quiet_in p (Refused access) s = ap (hits_in kind spans pid) (asked_is_in p s.process s.space s.lives s.has) ∙ refused_quiet kind spans pid s.process.regs p.memory (in_memory p.world) access s.means
 
-  pub quiet_next_in : (n : ℕ) (p : Physical) (stop : Stop) → StandsIn p pid stop → (o : After) → physical_event p pid ≡ o → T_in (suc n) p ≡ behind_in (T_in n) o
+  pub quiet_next_in : (n : ℕ) (p : Physical) (stop : Stop) → StandsIn p pid stop → (o : After) → event_in p pid ≡ o → T_in (suc n) p ≡ behind_in (T_in n) o
   quiet_next_in n p stop s o is = hits_next_in n p o is ∙ ap (λ (xs : List Hit). xs ++ behind_in (T_in n) o) (quiet_in p stop s)
 
   -- the memory behind an instruction that is carried out, whether a stray access is noted before it or not
   record WentOn (p : Physical) (q : Process) (now : Bytes) (regs : Regs) : Type 0 where
     mid : Physical
     space : LiveSpace
-    is : physical_event p pid ≡ goes mid false
+    is : event_in p pid ≡ goes mid false
     lives : find pid_of pid mid.world.procs ≡ Some (with_regs q regs)
     has : find id_of q.space mid.world.spaces ≡ Some space
     memory : mid.memory ≡ now
@@ -166,9 +166,9 @@ module _ (kind : PointKind) (spans : List Span) (pid : ℕ) where
 
   went_on : (p : Physical) (q : Process) (s : LiveSpace) → find pid_of pid p.world.procs ≡ Some q → find id_of q.space p.world.spaces ≡ Some s → (regs : Regs) (now : Bytes)
       → next_meaning p q ≡ next regs now → WentOn p q now regs
-  went_on p q s lives has regs now is = by (first_stray p pid) refl
+  went_on p q s lives has regs now is = by (first_stray_in p pid) refl
     where
-      by : (o : Option Access) → first_stray p pid ≡ o → WentOn p q now regs
+      by : (o : Option Access) → first_stray_in p pid ≡ o → WentOn p q now regs
       by None none = record {
         mid = moved_in p q s.space regs now 1;
         space = shown_space now s;
@@ -192,32 +192,32 @@ module _ (kind : PointKind) (spans : List Span) (pid : ℕ) where
 
   pub run_hits_in : (n : ℕ) (p : Physical) (q : Process) (s : LiveSpace) → find pid_of pid p.world.procs ≡ Some q → find id_of q.space p.world.spaces ≡ Some s
       → (instructions n (in_memory p.world) q.regs p.memory).done ≡ n → (left : ℕ)
-      → T_in (n + left) p ≡ hits_in kind spans pid (all_asked n (in_memory p.world) q.regs p.memory) ++ T_in left (physical_turn n pid p).now
-  unfolding instructions all_asked physical_turn
+      → T_in (n + left) p ≡ hits_in kind spans pid (all_asked n (in_memory p.world) q.regs p.memory) ++ T_in left (turn_in n pid p).now
+  unfolding instructions all_asked turn_in
   run_hits_in zero p q s lives has all left = let sum : 0 + left ≡ left = omega arith in rw (hits_in-nil kind spans pid) (ap (λ (k : ℕ). T_in k p) sum)
   run_hits_in (suc n) p q s lives has all left = first (next_meaning p q) refl all (λ v o l. run_hits_in n v o l)
     where
       first : (m : Meaning) → next_meaning p q ≡ m → (goes_on q.regs p.memory (λ regs now. instructions n (in_memory p.world) regs now) m).done ≡ suc n
           → ((v : Physical) (o : Process) (l : LiveSpace) → find pid_of pid v.world.procs ≡ Some o → find id_of o.space v.world.spaces ≡ Some l
           → (instructions n (in_memory v.world) o.regs v.memory).done ≡ n → (left : ℕ)
-          → T_in (n + left) v ≡ hits_in kind spans pid (all_asked n (in_memory v.world) o.regs v.memory) ++ T_in left (physical_turn n pid v).now)
+          → T_in (n + left) v ≡ hits_in kind spans pid (all_asked n (in_memory v.world) o.regs v.memory) ++ T_in left (turn_in n pid v).now)
           → T_in (suc n + left) p ≡ hits_in kind spans pid (asked q.regs p.memory (in_memory p.world) ++ asked_behind (λ regs now. all_asked n (in_memory p.world) regs now) m)
-          ++ T_in left (physical_turn (suc n) pid p).now
+          ++ T_in left (turn_in (suc n) pid p).now
       first (next regs now) is all more =
           let w = went_on p q s lives has regs now is in
           let here = asked q.regs p.memory (in_memory p.world) in
           let rest = all_asked n (in_memory p.world) regs now in
           let P : (ℕ → Bool) → Bytes → Type 0 = λ inside m. (instructions n inside regs m).done ≡ n
-          → T_in (n + left) w.mid ≡ hits_in kind spans pid (all_asked n inside regs m) ++ T_in left (physical_turn n pid w.mid).now in
+          → T_in (n + left) w.mid ≡ hits_in kind spans pid (all_asked n inside regs m) ++ T_in left (turn_in n pid w.mid).now in
           let there = subst (λ (m : Bytes). P (in_memory p.world) m) w.memory (subst (λ (inside : ℕ → Bool). P inside w.mid.memory) w.same
           (λ done. more w.mid (with_regs q regs) w.space w.lives w.has done left)) (omega (arith, all)) in
           let sum : suc n + left ≡ suc (n + left) = omega arith in
           ap (λ (k : ℕ). T_in k p) sum ∙ hits_next_in (n + left) p (goes w.mid false) w.is
           ∙ ap (λ (xs : List Hit). xs ++ T_in (n + left) w.mid) (ap (hits_in kind spans pid) (asked_is_in p q s lives has))
           ∙ ap (λ (xs : List Hit). hits_in kind spans pid here ++ xs) there
-          ∙ sym (append_assoc (hits_in kind spans pid here) (hits_in kind spans pid rest) (T_in left (physical_turn n pid w.mid).now))
-          ∙ ap (λ (xs : List Hit). xs ++ T_in left (physical_turn n pid w.mid).now) (sym (hits_in-append kind spans pid here rest))
-          ∙ ap (λ (v : Walk_in). hits_in kind spans pid (here ++ rest) ++ T_in left v.now) (sym (turn_in_next pid p n (goes w.mid false) w.is))
+          ∙ sym (append_assoc (hits_in kind spans pid here) (hits_in kind spans pid rest) (T_in left (turn_in n pid w.mid).now))
+          ∙ ap (λ (xs : List Hit). xs ++ T_in left (turn_in n pid w.mid).now) (sym (hits_in-append kind spans pid here rest))
+          ∙ ap (λ (v : WalkIn). hits_in kind spans pid (here ++ rest) ++ T_in left v.now) (sym (turn_in_next pid p n (goes w.mid false) w.is))
       first call is all more = absurd (omega (arith, all))
       first (trap signal) is all more = absurd (omega (arith, all))
       first (refused access) is all more = absurd (omega (arith, all))

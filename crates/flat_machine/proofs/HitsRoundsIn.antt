@@ -6,8 +6,8 @@ use Rattle.quantum_sched.specs.declared.Quantum.{Quantum}
 use Rattle.quantum_sched.specs.Picked.{picked}
 use Rattle.machine_world.specs.Families.{ready_pids}
 use Rattle.machine_world.specs.Turns.{End, log_full}
-use Rattle.physical_turns.specs.Physical.{Physical, physical_turn, stays_at}
-use Rattle.physical_turns.specs.Physical.{Walk as Walk_in}
+use Rattle.physical_turns.specs.Physical.{Physical, turn_in, remains_at_in}
+use Rattle.physical_turns.specs.Physical.{WalkIn}
 use Rattle.physical_turns.specs.Courses.{ComesIn}
 use Rattle.physical_turns.proofs.TurnsIn.{comes_in_none, comes_in_on}
 use Rattle.watch_points.specs.declared.hits.Hit.{Hit}
@@ -47,11 +47,11 @@ module _ (kind : PointKind) (spans : List Span) where
     none_hit_in found none back = sym (with_hits-nil found) ∙ ap (with_hits found) (sym (hits_at back None none))
 
     module _ (pid : ℕ) (chosen : picked q.pick (ready_pids p.world.procs) ≡ Some pid) where
-      goes_hits : (qs : List Quantum) (new : Physical) → physical_turn q.count pid p ≡ stays_at new None → H (q ∷ qs) p ≡ T pid q.count p ++ H qs new
-      goes_hits qs new is = hits_at qs (Some pid) chosen ∙ ap (λ (v : Walk_in). T pid q.count p ++ behind_turn_in (H qs) v.now v.end) is
+      goes_hits : (qs : List Quantum) (new : Physical) → turn_in q.count pid p ≡ remains_at_in new None → H (q ∷ qs) p ≡ T pid q.count p ++ H qs new
+      goes_hits qs new is = hits_at qs (Some pid) chosen ∙ ap (λ (v : WalkIn). T pid q.count p ++ behind_turn_in (H qs) v.now v.end) is
 
-      ends_hits : (qs : List Quantum) (new : Physical) (e : End) → physical_turn q.count pid p ≡ stays_at new (Some e) → H (q ∷ qs) p ≡ T pid q.count p
-      ends_hits qs new e is = hits_at qs (Some pid) chosen ∙ ap (λ (v : Walk_in). T pid q.count p ++ behind_turn_in (H qs) v.now v.end) is ∙ append-nil (T pid q.count p)
+      ends_hits : (qs : List Quantum) (new : Physical) (e : End) → turn_in q.count pid p ≡ remains_at_in new (Some e) → H (q ∷ qs) p ≡ T pid q.count p
+      ends_hits qs new e is = hits_at qs (Some pid) chosen ∙ ap (λ (v : WalkIn). T pid q.count p ++ behind_turn_in (H qs) v.now v.end) is ∙ append-nil (T pid q.count p)
 
   module _ (q : Quantum) (p : Physical) (pid : ℕ) (chosen : picked q.pick (ready_pids p.world.procs) ≡ Some pid) (before found : Found) (done : ℕ) (new : Physical) where
     pub turn_hits_leave_in : (r : Result (Option Told) AllocError) → TurnLeavesIn pid q.count p done new r → TurnHits (T pid) before found q.count p done r

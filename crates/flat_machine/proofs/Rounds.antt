@@ -18,7 +18,7 @@ use Rattle.machine_world.specs.Courses.{Comes}
 use Rattle.machine_world.proofs.RunLaws.{comes_none, comes_on, none_chosen, none_left, turn_stops, turn_comes}
 use Rattle.flat_machine.specs.declared.run.End.{End as Told}
 use Rattle.flat_machine.specs.declared.run.End.TheVariants as told
-use Rattle.stays_laws.specs.Stays.{AreRight, stays}
+use Rattle.stays_laws.specs.Stays.{AreRight, stays_along}
 use Rattle.stays_laws.specs.Sound.{IsSound}
 use Rattle.waits_laws.specs.Laws.{IsOrdered}
 use Rattle.waits_laws.proofs.Ordered.{turns_keep_ordered}
@@ -102,9 +102,9 @@ went_through qs old new x =
 
 -- and every run what is right of the stays
 pub run_keeps_stays : (qs : List Quantum) (old new : State) (r : Result Told AllocError) → IsSound (world old) → Runs qs old new r → KeepsStays qs old new r
-run_keeps_stays qs old new (Ok end) sound x = λ told right. subst (AreRight (stays told (world old) qs)) (sym x.0) (runs_keep_stays told qs (world old) sound right)
+run_keeps_stays qs old new (Ok end) sound x = λ told right. subst (AreRight (stays_along told (world old) qs)) (sym x.0) (runs_keep_stays told qs (world old) sound right)
 run_keeps_stays qs old new (Err error) sound x = λ stops told right.
-    subst (AreRight (stays told (world old) (gone_through stops))) (went_through qs (world old) (world new) stops) (runs_keep_stays told (gone_through stops) (world old) sound right)
+    subst (AreRight (stays_along told (world old) (gone_through stops))) (went_through qs (world old) (world new) stops) (runs_keep_stays told (gone_through stops) (world old) sound right)
 
 -- ---- one after the other
 

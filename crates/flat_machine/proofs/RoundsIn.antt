@@ -11,8 +11,8 @@ use Rattle.machine_world.specs.Families.{ready_pids}
 use Rattle.machine_world.specs.Turns.{stray_at, log_full, Walk, none_runs, turn, turns, walked}
 use Rattle.machine_world.specs.Courses.{Comes}
 use Rattle.machine_world.proofs.RunLaws.{none_left, turn_stops}
-use Rattle.physical_turns.specs.Physical.{Physical, has_stray, physical_turns, stays_at}
-use Rattle.physical_turns.specs.Physical.{Walk as Walk_in}
+use Rattle.physical_turns.specs.Physical.{Physical, has_stray, turns_in, remains_at_in}
+use Rattle.physical_turns.specs.Physical.{WalkIn}
 use Rattle.physical_turns.specs.Courses.{ComesIn}
 use Rattle.physical_turns.specs.Growth.{Adds}
 use Rattle.physical_turns.proofs.Growth.{runs_add}
@@ -36,8 +36,8 @@ module _ (q : Quantum) (p : Physical) where
 
   module _ (pid : ℕ) (chosen : picked q.pick (ready_pids p.world.procs) ≡ Some pid) (done : ℕ) (new : Physical) where
     pub quantum_leaves_in : (r : Result (Option Told) AllocError) → TurnLeavesIn pid q.count p done new r → LeavesIn (q ∷ []) p new r
-    quantum_leaves_in (Ok None) x = turn_in_comes q p pid chosen (stays_at new None) x refl
-    quantum_leaves_in (Ok (Some told.LogFull)) x = λ back. rw (turn_in_stops q p pid chosen (stays_at new (Some log_full)) x log_full refl back) (refl, tt)
+    quantum_leaves_in (Ok None) x = turn_in_comes q p pid chosen (remains_at_in new None) x refl
+    quantum_leaves_in (Ok (Some told.LogFull)) x = λ back. rw (turn_in_stops q p pid chosen (remains_at_in new (Some log_full)) x log_full refl back) (refl, tt)
     quantum_leaves_in (Ok (Some (told.Stray access))) x = absurd x
     quantum_leaves_in (Ok (Some told.AllEnded)) x = absurd x
     quantum_leaves_in (Ok (Some told.Stuck)) x = absurd x
@@ -95,7 +95,7 @@ module _ (s : State) where
 leaves_front_in : (front more : List Quantum) (old mid new : Physical) (r : Result (Option Told) AllocError) → ComesIn front old mid → LeavesIn more mid new r → LeavesIn (front ++ more) old new r
 leaves_front_in front more old mid new (Ok None) comes x = comes_in_on front more old mid new comes x
 leaves_front_in front more old mid new (Ok (Some end)) comes x = λ back.
-    let same : physical_turns ((front ++ more) ++ back) old ≡ physical_turns (more ++ back) mid = ap (λ qs. physical_turns qs old) (append_assoc front more back) ∙ comes (more ++ back) in
+    let same : turns_in ((front ++ more) ++ back) old ≡ turns_in (more ++ back) mid = ap (λ qs. turns_in qs old) (append_assoc front more back) ∙ comes (more ++ back) in
     rw same (x back)
 leaves_front_in front more old mid new (Err error) comes x = record {
   front = front ++ x.front;
@@ -131,7 +131,7 @@ stops_over_in front more old new x = record {
 -- what they add
 adds_of : (qs : List Quantum) (old new : Physical) (end : Option Told) → LeavesIn qs old new (Ok end) → Adds old.world new.world
 adds_of qs old new None x =
-    subst (λ (w : Walk_in). Adds old.world w.now.world) (x [] ∙ none_left_in new) (runs_add (qs ++ []) old)
+    subst (λ (w : WalkIn). Adds old.world w.now.world) (x [] ∙ none_left_in new) (runs_add (qs ++ []) old)
 adds_of qs old new (Some end) x = subst (λ (p : Physical). Adds old.world p.world) (x []).0 (runs_add (qs ++ []) old)
 
 -- up to the first stray access and behind it
@@ -214,7 +214,7 @@ module _ (qs : List Quantum) (i count : ℕ) (less : i < count) (old mid new : P
   pub time_on_in : LeavesIn qs mid new (Ok None) → ComesIn (repeated (i + 1) qs) old new
   time_on_in x = subst (λ rs. ComesIn rs old new) (sym (repeated_more i qs)) (comes_in_on (repeated i qs) qs old mid new comes x)
 
-  pub time_ends_in : (end : Told) → LeavesIn qs mid new (Ok (Some end)) → ((physical_turns (repeated count qs) old).now ≡ new) × Ends (physical_turns (repeated count qs) old).end end
+  pub time_ends_in : (end : Told) → LeavesIn qs mid new (Ok (Some end)) → ((turns_in (repeated count qs) old).now ≡ new) × Ends (turns_in (repeated count qs) old).end end
   time_ends_in end x =
       let all = leaves_front_in (repeated i qs) qs old mid new (Ok (Some end)) comes x in
       rw (split qs i count less) (all (repeated (count - (i + 1)) qs))
@@ -240,14 +240,14 @@ module _ (qs : List Quantum) (i count : ℕ) (less : i < count) (old mid new : S
 
 -- behind the last quantum
 module _ (qs : List Quantum) (old new : State) (end : Told) (last : Ends (turns [] (world new)).end end) where
-  last_in : Ends (physical_turns [] (one_memory new)).end end
+  last_in : Ends (turns_in [] (one_memory new)).end end
   unfolding physical_of
   last_in = rw (none_left_in (one_memory new)) (rw (none_left (world new)) at last)
 
   pub all_comes_in : ComesIn qs (one_memory old) (one_memory new) → RunsIn qs old new (Ok end)
   all_comes_in comes =
-      let same : physical_turns qs (one_memory old) ≡ physical_turns [] (one_memory new) = ap (λ rs. physical_turns rs (one_memory old)) (sym (append-nil qs)) ∙ comes [] in
-      rw same (ap (λ (w : Walk_in). w.now) (none_left_in (one_memory new)), last_in)
+      let same : turns_in qs (one_memory old) ≡ turns_in [] (one_memory new) = ap (λ rs. turns_in rs (one_memory old)) (sym (append-nil qs)) ∙ comes [] in
+      rw same (ap (λ (w : WalkIn). w.now) (none_left_in (one_memory new)), last_in)
 
   pub all_first : LeavesFirst qs (world old) (world new) (Ok None) → GoesOn qs old new (Ok end)
   all_first x =

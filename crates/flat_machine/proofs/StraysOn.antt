@@ -8,7 +8,7 @@ use Rattle.vfork_exec.specs.Keyed.{find}
 use Rattle.machine_world.specs.World.{Process, LiveSpace, World, pid_of, id_of}
 use Rattle.machine_world.specs.Families.{MayRun}
 use Rattle.machine_world.specs.Event.{Outcome, effect, in_space, by_process, at_process, event, stray_in, stray}
-use Rattle.physical_turns.specs.Physical.{Physical, After, after, no_room, nobody, has_stray, first_stray, with_stray, physical_event, carried_out, physical_turn, turned, Walk}
+use Rattle.physical_turns.specs.Physical.{Physical, After, after, no_room, nobody, has_stray, first_stray_in, with_stray, event_in, carried_out, turn_in, turned_in, WalkIn}
 use Rattle.physical_turns.proofs.Moves.{noted_unstrayed, event_in_strays, event_in_calm}
 use Rattle.physical_turns.proofs.TurnsIn.{turn_in_next}
 use Rattle.flat_machine.proofs.StillIn.{StillIn, still_in}
@@ -16,7 +16,7 @@ use Rattle.flat_machine.proofs.StillIn.{StillIn, still_in}
 -- its access was noted, and nothing of it was carried out
 pub record StraysIn (pid : ℕ) (old new : Physical) : Type 0 where
   pub access : Access
-  pub first : first_stray old pid ≡ Some access
+  pub first : first_stray_in old pid ≡ Some access
   pub noted : new ≡ with_stray pid (Some access) old
 
 -- ---- who strays lives in a space
@@ -43,7 +43,7 @@ there_of w pid access is = found (find pid_of pid w.procs) refl is
     found None lives is = absurd cc
     found (Some p) lives is = in_its p lives (find id_of p.space w.spaces) refl is
 
-first_is_stray : (p : Physical) (pid : ℕ) (access : Access) → first_stray p pid ≡ Some access → stray p.world pid ≡ Some access
+first_is_stray : (p : Physical) (pid : ℕ) (access : Access) → first_stray_in p pid ≡ Some access → stray p.world pid ≡ Some access
 first_is_stray p pid access is = by (has_stray p.world.notes) (stray p.world pid) is
   where
     by : (was : Bool) (o : Option Access) → (if was then None else o) ≡ Some access → o ≡ Some access
@@ -51,7 +51,7 @@ first_is_stray p pid access is = by (has_stray p.world.notes) (stray p.world pid
     by false o is = is
 
 -- and no stray access was noted before
-pub first_is_quiet : (p : Physical) (pid : ℕ) (access : Access) → first_stray p pid ≡ Some access → has_stray p.world.notes ≡ false
+pub first_is_quiet : (p : Physical) (pid : ℕ) (access : Access) → first_stray_in p pid ≡ Some access → has_stray p.world.notes ≡ false
 first_is_quiet p pid access is = by (has_stray p.world.notes) (stray p.world pid) is
   where
     by : (was : Bool) (o : Option Access) → (if was then None else o) ≡ Some access → was ≡ false
@@ -64,10 +64,10 @@ module _ (pid : ℕ) (at mid : Physical) (x : StraysIn pid at mid) where
   was_noted : has_stray mid.world.notes ≡ true
   was_noted = ap (λ (p : Physical). has_stray p.world.notes) x.noted
 
-  pub before_is : physical_event at pid ≡ carried_out mid pid
+  pub before_is : event_in at pid ≡ carried_out mid pid
   before_is = event_in_strays at pid x.access x.first ∙ ap (λ (p : Physical). carried_out p pid) (sym x.noted)
 
-  pub behind_is : physical_event mid pid ≡ carried_out mid pid
+  pub behind_is : event_in mid pid ≡ carried_out mid pid
   behind_is = event_in_calm mid pid (noted_unstrayed mid pid was_noted)
 
   module _ (may : MayRun mid.world pid) where
@@ -76,12 +76,12 @@ module _ (pid : ℕ) (at mid : Physical) (x : StraysIn pid at mid) where
         let s = there_of at.world pid x.access (first_is_stray at pid x.access x.first) in
         still_in mid pid s.process s.space (ap (λ (p : Physical). find pid_of pid p.world.procs) x.noted ∙ s.lives) (ap (λ (p : Physical). find id_of s.process.space p.world.spaces) x.noted ∙ s.has) may
 
-    same_turned : (more : Physical → Walk) (a : After) → StillIn pid a → turned more at a ≡ turned more mid a
+    same_turned : (more : Physical → WalkIn) (a : After) → StillIn pid a → turned_in more at a ≡ turned_in more mid a
     same_turned more (after now over) still = refl
     same_turned more (no_room now) still = refl
     same_turned more nobody still = absurd still
 
-    pub strays_on : (n : ℕ) → physical_turn (suc n) pid at ≡ physical_turn (suc n) pid mid
+    pub strays_on : (n : ℕ) → turn_in (suc n) pid at ≡ turn_in (suc n) pid mid
     strays_on n =
-        turn_in_next pid at n (carried_out mid pid) before_is ∙ same_turned (physical_turn n pid) (carried_out mid pid) somebody
+        turn_in_next pid at n (carried_out mid pid) before_is ∙ same_turned (turn_in n pid) (carried_out mid pid) somebody
         ∙ sym (turn_in_next pid mid n (carried_out mid pid) behind_is)

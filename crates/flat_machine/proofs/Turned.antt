@@ -10,7 +10,7 @@ use Rattle.call_log.specs.Notes.{stray_note}
 use Rattle.vfork_exec.specs.Procs.{CanRun}
 use Rattle.machine_world.specs.World.{World}
 use Rattle.machine_world.specs.Event.{Outcome, went, strays, full, idle, noted, event}
-use Rattle.machine_world.specs.Turns.{stray_at, log_full, Walk, seen_of, stays_at, turn, walked}
+use Rattle.machine_world.specs.Turns.{stray_at, log_full, Walk, seen_of, remains_at, turn, walked}
 use Rattle.machine_world.specs.Courses.{Leads, StandsAt, Halts}
 use Rattle.machine_world.proofs.TurnLaws.{leads_none, leads_on, leads_event, turn_over, turn_strays, turn_full, turn_used, turn_from}
 use Rattle.kept_parts.specs.Flats.{AreFlats}
@@ -120,7 +120,7 @@ module _ (kind : Kind) (flats : List Values) (pid count : ℕ) (old now : Kept) 
     full_with : (a : About) → a.kind ≡ kind → AreFlats a.programs flats → (o : Outcome) → event (world_of (later n a) now) pid ≡ o → Carried (later n a) o now new pid (Ok after.LogFull)
         → TurnLeaves pid count (world_of a old) n (world_of (later n a) new) (Ok (Some told.LogFull))
     full_with a so are full is x =
-        let same = whole a so are (stays_at (world_of (later n a) now) (Some log_full)) (turn_full pid (world_of (later n a) now) is) in
+        let same = whole a so are (remains_at (world_of (later n a) now) (Some log_full)) (turn_full pid (world_of (later n a) now) is) in
         (ap (λ (z : Walk). z.world) same ∙ ap (world_of (later n a)) (sym x), rw same tt)
     full_with a so are (went v t) is x = absurd x
     full_with a so are (strays access) is x = absurd x
@@ -134,7 +134,7 @@ module _ (kind : Kind) (flats : List Values) (pid count : ℕ) (old now : Kept) 
         → CarriedOrEnds (later n a) o now new pid (Ok (after.Strays seen)) → TurnLeaves pid count (world_of a old) n (world_of (later n a) new) (Ok (Some (told.Stray seen)))
     strays_with a so are (strays access) seen is x =
         let w : World = noted (stray_note pid (seen_of access)) (world_of (later n a) now) in
-        let same = whole a so are (stays_at w (Some (stray_at pid access))) (turn_strays pid (world_of (later n a) now) access is) in
+        let same = whole a so are (remains_at w (Some (stray_at pid access))) (turn_strays pid (world_of (later n a) now) access is) in
         (ap (λ (z : Walk). z.world) same ∙ sym x.1, rw same x.0)
     strays_with a so are (went v t) seen is x = absurd x
     strays_with a so are full seen is x = absurd x

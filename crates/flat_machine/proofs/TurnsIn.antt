@@ -15,7 +15,7 @@ use Rattle.machine_world.specs.World.{World, Process}
 use Rattle.machine_world.specs.Event.{Outcome, went, strays, full, idle, event}
 use Rattle.machine_world.specs.Turns.{log_full}
 use Rattle.machine_world.specs.Courses.{EndsAs, StandsAt}
-use Rattle.physical_turns.specs.Physical.{Physical, has_stray, next_meaning, physical_turn, stays_at}
+use Rattle.physical_turns.specs.Physical.{Physical, has_stray, next_meaning, turn_in, remains_at_in}
 use Rattle.physical_turns.specs.Courses.{LeadsIn, StandsIn}
 use Rattle.physical_turns.proofs.TurnsIn.{leads_in_none, leads_in_on, turn_in_over, turn_in_full, turn_in_used, turn_in_from}
 use Rattle.kept_parts.specs.declared.reach.Reach.{Reach}
@@ -170,7 +170,7 @@ module _ (kind : Kind) (flats : List Values) (pid : ℕ) (old mid new : Kept) wh
   pub turn_all_in : (n count : ℕ) → n ≡ count → ReachedIn kind flats pid old n mid → (a : About) → a.kind ≡ kind → AreFlats a.programs flats
       → TurnLeavesIn pid count (shown a old) n (shown (later n a) mid) (Ok None)
   turn_all_in n count all reached a so are =
-      ap (λ (m : ℕ). physical_turn m pid (shown a old)) (sym all) ∙ turn_in_used pid (shown a old) (shown (later n a) mid) n (reached a so are)
+      ap (λ (m : ℕ). turn_in m pid (shown a old)) (sym all) ∙ turn_in_used pid (shown a old) (shown (later n a) mid) n (reached a so are)
 
   module _ (n count : ℕ) (less : n < count) (reached : ReachedIn kind flats pid old n mid) where
     -- the event behind them is the turn's last
@@ -180,20 +180,20 @@ module _ (kind : Kind) (flats : List Values) (pid : ℕ) (old mid new : Kept) wh
         let now : Physical = shown (later 1 (later n a)) new in
         let P : Physical → Type 0 = λ p. TurnEndsIn pid count (shown a old) p None in
         subst P (ap (λ (b : About). shown b new) (later_on n 1 a))
-        (turn_in_from pid (shown a old) (shown (later n a) mid) n (reached a so are) count (stays_at now None) less (turn_in_over pid (shown (later n a) mid) now (ends (later n a) so are)))
+        (turn_in_from pid (shown a old) (shown (later n a) mid) n (reached a so are) count (remains_at_in now None) less (turn_in_over pid (shown (later n a) mid) now (ends (later n a) so are)))
 
     -- the log has no room for it
     pub turn_stops_in : ((a : About) → a.kind ≡ kind → AreFlats a.programs flats → EventIn (headers_of flats) a mid new pid (Ok after.LogFull)) → (a : About) → a.kind ≡ kind → AreFlats a.programs flats
         → TurnLeavesIn pid count (shown a old) n (shown (later n a) new) (Ok (Some told.LogFull))
     turn_stops_in no_more a so are =
         let now : Physical = shown (later n a) new in
-        turn_in_from pid (shown a old) (shown (later n a) mid) n (reached a so are) count (stays_at now (Some log_full)) less (turn_in_full pid (shown (later n a) mid) now (no_more (later n a) so are))
+        turn_in_from pid (shown a old) (shown (later n a) mid) n (reached a so are) count (remains_at_in now (Some log_full)) less (turn_in_full pid (shown (later n a) mid) now (no_more (later n a) so are))
 
     -- out of memory
     pub turn_fails_in : (error : AllocError) → new ≡ mid → ((a : About) → StandsStillIn (shown a mid) pid) → (a : About) → a.kind ≡ kind → AreFlats a.programs flats
         → TurnLeavesIn pid count (shown a old) n (shown (later n a) new) (Err error)
     turn_fails_in error same still a so are = record {
       less = less;
-      walked = turn_in_used pid (shown a old) (shown (later n a) mid) n (reached a so are) ∙ ap (λ (k : Kept). stays_at (shown (later n a) k) None) (sym same);
+      walked = turn_in_used pid (shown a old) (shown (later n a) mid) n (reached a so are) ∙ ap (λ (k : Kept). remains_at_in (shown (later n a) k) None) (sym same);
       still = subst (λ (k : Kept). StandsStillIn (shown (later n a) k) pid) (sym same) (still (later n a));
     }

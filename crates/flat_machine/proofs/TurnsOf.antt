@@ -9,7 +9,7 @@ use Rattle.vfork_exec.specs.Procs.{CanRun}
 use Rattle.machine_world.specs.World.{World}
 use Rattle.machine_world.specs.Programs.{AreLoaded}
 use Rattle.waits_laws.specs.Laws.{IsOrdered}
-use Rattle.physical_turns.specs.Physical.{Physical, has_stray, physical_turn, Walk}
+use Rattle.physical_turns.specs.Physical.{Physical, has_stray, turn_in, WalkIn}
 use Rattle.physical_turns.specs.Growth.{Adds}
 use Rattle.physical_turns.proofs.Growth.{turns_add, turns_leave_programs}
 use Rattle.kept_parts.specs.Copies.{HoldsFiles}
@@ -32,14 +32,14 @@ abbrev Loaded : World → World → Type 0
 Loaded old now = AreLoaded (length old.rest.programs) old.notes → AreLoaded (length old.rest.programs) now.notes
 
 module _ (pid count done : ℕ) (old new : Physical) where
-  walked_loads : (n : ℕ) → Loaded old.world (physical_turn n pid old).now.world
+  walked_loads : (n : ℕ) → Loaded old.world (turn_in n pid old).now.world
   walked_loads n = (turns_leave_programs n pid old).loaded
 
-  ends_loads : (walk : Walk) → physical_turn count pid old ≡ walk → Loaded old.world walk.now.world
-  ends_loads walk is = subst (λ (w : Walk). Loaded old.world w.now.world) is (walked_loads count)
+  ends_loads : (walk : WalkIn) → turn_in count pid old ≡ walk → Loaded old.world walk.now.world
+  ends_loads walk is = subst (λ (w : WalkIn). Loaded old.world w.now.world) is (walked_loads count)
 
   stops_loads : TurnStopsIn pid count old done new → Loaded old.world new.world
-  stops_loads x = subst (λ (w : Walk). Loaded old.world w.now.world) x.walked (walked_loads done)
+  stops_loads x = subst (λ (w : WalkIn). Loaded old.world w.now.world) x.walked (walked_loads done)
 
   turn_loads_in : (r : Result (Option Told) AllocError) → TurnLeavesIn pid count old done new r → Loaded old.world new.world
   turn_loads_in (Ok None) x = ends_loads _ x
@@ -52,13 +52,13 @@ module _ (pid count done : ℕ) (old new : Physical) where
 
   -- and what it adds
   pub turn_adds_in : (r : Result (Option Told) AllocError) → TurnLeavesIn pid count old done new r → Adds old.world new.world
-  turn_adds_in (Ok None) x = subst (λ (w : Walk). Adds old.world w.now.world) x (turns_add count pid old)
-  turn_adds_in (Ok (Some told.LogFull)) x = subst (λ (w : Walk). Adds old.world w.now.world) x (turns_add count pid old)
+  turn_adds_in (Ok None) x = subst (λ (w : WalkIn). Adds old.world w.now.world) x (turns_add count pid old)
+  turn_adds_in (Ok (Some told.LogFull)) x = subst (λ (w : WalkIn). Adds old.world w.now.world) x (turns_add count pid old)
   turn_adds_in (Ok (Some (told.Stray access))) x = absurd x
   turn_adds_in (Ok (Some told.AllEnded)) x = absurd x
   turn_adds_in (Ok (Some told.Stuck)) x = absurd x
   turn_adds_in (Ok (Some told.OutOfQuanta)) x = absurd x
-  turn_adds_in (Err error) x = subst (λ (w : Walk). Adds old.world w.now.world) x.walked (turns_add done pid old)
+  turn_adds_in (Err error) x = subst (λ (w : WalkIn). Adds old.world w.now.world) x.walked (turns_add done pid old)
 
 -- by what becomes of the run at its first stray access
 module _ (kind : Kind) (flats : List Values) (a : About) (so : a.kind ≡ kind) (are : AreFlats a.programs flats) (pid count done : ℕ) (old new : Kept) (r : Result (Option Told) AllocError) where

@@ -7,10 +7,10 @@ use Rattle.rv32im_step.specs.declared.access.Access.{Access}
 use Rattle.call_log.specs.Notes.{stray_note}
 use Rattle.machine_world.specs.World.{World}
 use Rattle.machine_world.specs.Event.{Outcome, went, strays, full, idle, noted, event}
-use Rattle.machine_world.specs.Turns.{Walk, stray_at, seen_of, stays_at, turn, walked}
+use Rattle.machine_world.specs.Turns.{Walk, stray_at, seen_of, remains_at, turn, walked}
 use Rattle.machine_world.proofs.TurnLaws.{turn_strays, turn_from}
 use Rattle.physical_turns.specs.Physical.{has_stray}
-use Rattle.physical_turns.specs.Physical.{Walk as Walk_in}
+use Rattle.physical_turns.specs.Physical.{WalkIn}
 use Rattle.physical_turns.specs.Courses.{LeadsIn}
 use Rattle.physical_turns.specs.Growth.{Adds}
 use Rattle.physical_turns.proofs.Growth.{turns_add}
@@ -103,7 +103,7 @@ unfolding physical_of world_of
 reached_adds headers pid old new j leads a =
     let from = physical_of headers a old in
     let to = physical_of headers (later j a) new in
-    subst (λ (w : Walk_in). Adds from.world w.now.world) (turn_in_used pid from to j (leads a)) (turns_add j pid from)
+    subst (λ (w : WalkIn). Adds from.world w.now.world) (turn_in_used pid from to j (leads a)) (turns_add j pid from)
 
 module _ (kind : Kind) (flats : List Values) (pid : ℕ) (old : Kept) where
   pub first_reached_none : has_stray old.notes ≡ false → FirstReached kind flats pid old 0 old
@@ -138,8 +138,8 @@ module _ (kind : Kind) (flats : List Values) (pid : ℕ) (old : Kept) where
         let w = past (later n a) so are in
         let now : World = noted (stray_note pid (seen_of w.access)) (world_of (later n a) mid) in
         let less : n < count = omega (arith, most) in
-        let same : turn count pid (world_of a old) ≡ walked (reached a so are).traces (stays_at now (Some (stray_at pid w.access))) =
-        turn_from pid (world_of a old) (world_of (later n a) mid) n (reached a so are) count (stays_at now (Some (stray_at pid w.access))) less (turn_strays pid (world_of (later n a) mid) w.access w.strays) in
+        let same : turn count pid (world_of a old) ≡ walked (reached a so are).traces (remains_at now (Some (stray_at pid w.access))) =
+        turn_from pid (world_of a old) (world_of (later n a) mid) n (reached a so are) count (remains_at now (Some (stray_at pid w.access))) less (turn_strays pid (world_of (later n a) mid) w.access w.strays) in
         past_so (turn count pid (world_of a old)) (later n a) (later (n + 1) a) new
         (record { pid = pid; access = w.access; ends = ap (λ (v : Walk). v.end) same; adds = subst (λ (v : Walk). Adds v.world (world_of (later n a) new)) (sym same) w.adds })
 

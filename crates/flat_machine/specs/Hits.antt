@@ -11,7 +11,7 @@ use Rattle.machine_world.specs.World.{World, Process, LiveSpace, pid_of, id_of}
 use Rattle.machine_world.specs.Families.{ready_pids}
 use Rattle.machine_world.specs.Event.{Outcome, went, strays, full, idle, event}
 use Rattle.machine_world.specs.Turns.{End, turn}
-use Rattle.physical_turns.specs.Physical.{Physical, After, after, no_room, nobody, in_memory, physical_event, physical_turn}
+use Rattle.physical_turns.specs.Physical.{Physical, After, after, no_room, nobody, in_memory, event_in, turn_in}
 use Rattle.watch_points.specs.declared.hits.Hit.{Hit}
 use Rattle.watch_points.specs.declared.point.PointKind.{PointKind}
 use Rattle.watch_points.specs.declared.span.Span.{Span}
@@ -77,7 +77,7 @@ behind_in more nobody = []
 
 unfoldable pub turn_hits_in : PointKind → List Span → (pid n : ℕ) → Physical → List Hit
 turn_hits_in kind spans pid zero p = []
-turn_hits_in kind spans pid (suc n) p = hits_in kind spans pid (event_asked_in p pid) ++ behind_in (turn_hits_in kind spans pid n) (physical_event p pid)
+turn_hits_in kind spans pid (suc n) p = hits_in kind spans pid (event_asked_in p pid) ++ behind_in (turn_hits_in kind spans pid n) (event_in p pid)
 
 abbrev pub behind_turn_in : (Physical → List Hit) → Physical → Option End → List Hit
 behind_turn_in more p (Some end) = []
@@ -86,7 +86,7 @@ behind_turn_in more p None = more p
 abbrev pub quantum_hits_in : PointKind → List Span → (Physical → List Hit) → Physical → ℕ → Option ℕ → List Hit
 quantum_hits_in kind spans more p count None = []
 quantum_hits_in kind spans more p count (Some pid) =
-    turn_hits_in kind spans pid count p ++ behind_turn_in more (physical_turn count pid p).now (physical_turn count pid p).end
+    turn_hits_in kind spans pid count p ++ behind_turn_in more (turn_in count pid p).now (turn_in count pid p).end
 
 unfoldable pub hits_in_memory : PointKind → List Span → List Quantum → Physical → List Hit
 hits_in_memory kind spans [] p = []

@@ -15,7 +15,7 @@ use Rattle.vfork_exec.specs.Procs.{CanRun}
 use Rattle.machine_world.specs.Families.{ready_pids}
 use Rattle.machine_world.specs.World.{World, Process, LiveSpace, pid_of, id_of}
 use Rattle.machine_world.specs.Turns.{End, Walk, stray_at, log_full, turn, turns}
-use Rattle.physical_turns.specs.Physical.{Physical, After as Outcome, after as goes, no_room, has_stray, next_meaning, first_stray, physical_event, physical_turn, physical_turns}
+use Rattle.physical_turns.specs.Physical.{Physical, After as Outcome, after as goes, no_room, has_stray, next_meaning, first_stray_in, event_in, turn_in, turns_in}
 use Rattle.physical_turns.specs.Courses.{LeadsIn, ComesIn, StandsIn}
 use Rattle.physical_turns.specs.Growth.{Adds}
 use Rattle.kept_parts.specs.declared.reach.Reach.{Reach}
@@ -42,16 +42,16 @@ CarriedIn headers a outcome old new pid (Ok other) = ⊥
 
 -- its event may be the run's first that strays, of which nothing is done yet
 abbrev pub CarriedWithin : List (List ℕ) → About → Kept → Kept → ℕ → Result After AllocError → Type 0
-CarriedWithin headers a old new pid (Ok (after.Strays access)) = (first_stray (physical_of headers a old) pid ≡ Some access) × (new ≡ old)
-CarriedWithin headers a old new pid result = CarriedIn headers a (physical_event (physical_of headers a old) pid) old new pid result
+CarriedWithin headers a old new pid (Ok (after.Strays access)) = (first_stray_in (physical_of headers a old) pid ≡ Some access) × (new ≡ old)
+CarriedWithin headers a old new pid result = CarriedIn headers a (event_in (physical_of headers a old) pid) old new pid result
 
 -- an event of a run that goes on, behind the note of its stray access where that is the first: the turn goes on, or is over, or the log
 -- has no room; out of memory nothing changed
 abbrev pub EventIn : List (List ℕ) → About → Kept → Kept → ℕ → Result After AllocError → Type 0
 EventIn headers a old new pid (Ok after.GoesOn) = LeadsIn pid (physical_of headers a old) 1 (physical_of headers (later 1 a) new) × CanRun new.procs pid
-EventIn headers a old new pid (Ok after.TurnEnds) = physical_event (physical_of headers a old) pid ≡ goes (physical_of headers (later 1 a) new) true
+EventIn headers a old new pid (Ok after.TurnEnds) = event_in (physical_of headers a old) pid ≡ goes (physical_of headers (later 1 a) new) true
 EventIn headers a old new pid (Ok (after.Strays access)) = ⊥
-EventIn headers a old new pid (Ok after.LogFull) = physical_event (physical_of headers a old) pid ≡ no_room (physical_of headers a new)
+EventIn headers a old new pid (Ok after.LogFull) = event_in (physical_of headers a old) pid ≡ no_room (physical_of headers a new)
 EventIn headers a old new pid (Err error) = new ≡ old
 
 -- where a process stands: within its own bytes an access that is refused says nothing of all of memory
@@ -68,7 +68,7 @@ HaltsWithin reach p pid most done stop = (done < most) × StandsWithin reach p p
 
 -- it comes to its end, or to that of the run
 abbrev pub TurnEndsIn : ℕ → ℕ → Physical → Physical → Option End → Type 0
-TurnEndsIn pid count old new end = physical_turn count pid old ≡ record { now = new; end = end }
+TurnEndsIn pid count old new end = turn_in count pid old ≡ record { now = new; end = end }
 
 -- a process's next step: within its own bytes up to the run's first stray access, and behind it over all of memory
 abbrev pub step_within : Physical → Process → Space → Meaning
@@ -85,7 +85,7 @@ pub record StandsStillIn (p : Physical) (pid : ℕ) : Type 0 where
 -- out of memory it stands behind some of its events; there the next instruction makes a call, traps, or strays
 pub record TurnStopsIn (pid count : ℕ) (old : Physical) (done : ℕ) (new : Physical) : Type 0 where
   pub less : done < count
-  pub walked : physical_turn done pid old ≡ record { now = new; end = None }
+  pub walked : turn_in done pid old ≡ record { now = new; end = None }
   pub still : StandsStillIn new pid
 
 abbrev pub TurnLeavesIn : ℕ → ℕ → Physical → ℕ → Physical → Result (Option Told) AllocError → Type 0
@@ -119,7 +119,7 @@ pub record StopsIn (quanta : List Quantum) (old new : Physical) : Type 0 where
 abbrev pub LeavesIn : List Quantum → Physical → Physical → Result (Option Told) AllocError → Type 0
 LeavesIn quanta old new (Ok None) = ComesIn quanta old new
 LeavesIn quanta old new (Ok (Some end)) =
-    (back : List Quantum) → ((physical_turns (quanta ++ back) old).now ≡ new) × Ends (physical_turns (quanta ++ back) old).end end
+    (back : List Quantum) → ((turns_in (quanta ++ back) old).now ≡ new) × Ends (turns_in (quanta ++ back) old).end end
 LeavesIn quanta old new (Err error) = StopsIn quanta old new
 
 -- the world of private spaces ends there with a stray access, and all that it noted and wrote stands before what came later

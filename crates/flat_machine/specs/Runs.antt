@@ -12,7 +12,7 @@ use Rattle.machine_world.specs.World.{World, Process, LiveSpace, pid_of, id_of}
 use Rattle.machine_world.specs.Families.{ready_pids}
 use Rattle.machine_world.specs.Courses.{Comes}
 use Rattle.machine_world.specs.Turns.{End, all_ended, stuck, out_of_quanta, stray_at, log_full, turn, turns}
-use Rattle.stays_laws.specs.Stays.{Stay, AreRight, stays}
+use Rattle.stays_laws.specs.Stays.{Stay, AreRight, stays_along}
 use Rattle.waits_laws.specs.Waits.{WaitsWell}
 use Rattle.waits_laws.specs.Laws.{WaitsOrLent}
 use Rattle.flat_machine.specs.declared.run.End.{End as Told}
@@ -66,7 +66,7 @@ Runs quanta old new (Err error) = Stops quanta (world old) (world new)
 -- where what is told of each space's stay was right, it is right as it goes on along the turns of these quanta: each process does what
 -- its program does alone under the same replies
 abbrev pub KeepsStaysAlong : List Quantum → World → World → Type 0
-KeepsStaysAlong quanta old new = (told : List Stay) → AreRight told old → AreRight (stays told old quanta) new
+KeepsStaysAlong quanta old new = (told : List Stay) → AreRight told old → AreRight (stays_along told old quanta) new
 
 -- what a run that is out of memory went through: the quanta in front, and so many events of the next one
 abbrev pub gone_through : {quanta : List Quantum} {old new : World} → Stops quanta old new → List Quantum

@@ -4,7 +4,7 @@ use Rattle.std.specs.declared.alloc.AllocError.{AllocError}
 use Rattle.quantum_sched.specs.declared.Quantum.{Quantum}
 use Rattle.call_log.specs.declared.how.Seen.{Seen}
 use Rattle.machine_world.specs.Turns.{seen_of, turns}
-use Rattle.physical_turns.specs.Physical.{has_stray, physical_turns}
+use Rattle.physical_turns.specs.Physical.{has_stray, turns_in}
 use Rattle.flat_machine.specs.declared.run.End.{End as Told}
 use Rattle.flat_machine.specs.declared.run.End.TheVariants as told
 use Rattle.region_watch.specs.declared.mode.Mode.TheVariants.{Halt}
@@ -25,7 +25,7 @@ pub record IsHalting (s : State) : Type 0 where
 
 -- the machine stands for the one memory that the turns lead to, and tells their end
 abbrev pub RunsIn : List Quantum → State → State → Result Told AllocError → Type 0
-RunsIn quanta old new (Ok end) = ((physical_turns quanta (one_memory old)).now ≡ one_memory new) × Ends (physical_turns quanta (one_memory old)).end end
+RunsIn quanta old new (Ok end) = ((turns_in quanta (one_memory old)).now ≡ one_memory new) × Ends (turns_in quanta (one_memory old)).end end
 RunsIn quanta old new (Err error) = StopsIn quanta (one_memory old) (one_memory new)
 
 -- a run that goes on: up to its first stray access it is that of the private spaces; and where it met one, these end there, and all that
@@ -41,5 +41,5 @@ TellsAccess seen (Ok (told.Stray access)) = seen_of access ≡ seen
 TellsAccess seen other = ⊥
 
 -- a run that has ended at its first stray access stays there, and tells it again
-abbrev pub StaysHalted : State → State → Result Told AllocError → Type 0
-StaysHalted old new r = (seen : Seen) → halted_at old.mode old.kept.notes ≡ Some seen → (new ≡ old) × TellsAccess seen r
+abbrev pub RemainsHalted : State → State → Result Told AllocError → Type 0
+RemainsHalted old new r = (seen : Seen) → halted_at old.mode old.kept.notes ≡ Some seen → (new ≡ old) × TellsAccess seen r

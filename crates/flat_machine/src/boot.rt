@@ -9,7 +9,7 @@ ghost use Rattle.kept_parts.specs.Stands.{world_of};
 ghost use Rattle.page_runs.specs.Choosers.{IsChooser, kind_of};
 ghost use Rattle.machine_world.specs.Boot.{boot, started};
 ghost use Rattle.manifest_text.specs.declared.manifest.Start.{Start as StartItem};
-ghost use Rattle.physical_turns.specs.Physical.{has_stray, opening};
+ghost use Rattle.physical_turns.specs.Physical.{has_stray, opening_in};
 ghost use Rattle.kept_parts.specs.InMemory.{headers_of, LaysOn};
 ghost use Rattle.flat_machine.specs.State.{world, one_memory, rest_of, line_of, lines_of, about_boot};
 ghost use Rattle.flat_machine.specs.Boots.{marked, Boots, Begins, BeginsStays, BeginsWaits};
@@ -127,7 +127,7 @@ impl Machine {
         requires starts { length setup.starts.items ≤ 64 }
         requires args { (i : ℕ) → (s : StartItem) → slice_get setup.starts.items i ≡ Some s → 0 < length s.args.items }
         ensures world { Boots (boot (rest_of setup.pages (kind_of chooser.now) setup.paths.items setup.programs.items setup.tree setup.stdin.items setup.keep) (lines_of setup.starts.items)) result }
-        ensures memory { IfOk result (λ machine. one_memory machine ≡ opening (headers_of setup.programs.items) (world machine)) }
+        ensures memory { IfOk result (λ machine. one_memory machine ≡ opening_in (headers_of setup.programs.items) (world machine)) }
         ensures mode { IfOk result (λ machine. machine.mode ≡ setup.mode) }
         ensures quiet { IfOk result (λ machine. has_stray (world machine).notes ≡ false) }
         ensures waits { BeginsWaits result }

@@ -12,7 +12,7 @@ ghost use Rattle.region_watch.specs.declared.mode.Mode.TheVariants.{Halt, GoOn};
 ghost use Rattle.flat_machine.specs.State.{world, one_memory};
 ghost use Rattle.kept_parts.specs.Copies.{HoldsFiles};
 ghost use Rattle.flat_machine.specs.Runs.{Ends, repeated};
-ghost use Rattle.flat_machine.specs.RunsIn.{IsHalting, StaysHalted};
+ghost use Rattle.flat_machine.specs.RunsIn.{IsHalting, RemainsHalted};
 ghost use Rattle.flat_machine.specs.ByMode.{HaltRuns, GoOnRuns};
 ghost use Rattle.flat_machine.specs.Leaves.{Leaves, TurnLeaves};
 ghost use Rattle.flat_machine.specs.LeavesIn.{LeavesIn, LeavesFirst, TurnLeavesIn, TurnFirst, is_stray};
@@ -189,7 +189,7 @@ impl Machine {
         ensures events { self.new.events ≤ self.old.events + sum_by (λ q. q.count) quanta.now }
         ensures halts { IsHalting self.old → HaltRuns quanta.now self.old self.new result }
         ensures goes_on { self.old.mode ≡ GoOn → GoOnRuns quanta.now self.old self.new result }
-        ensures halted { StaysHalted self.old self.new result }
+        ensures halted { RemainsHalted self.old self.new result }
     {
         self.run_repeated(quanta, 1, chooser)
     }
@@ -210,7 +210,7 @@ impl Machine {
         ensures events { self.new.events ≤ self.old.events + count * sum_by (λ q. q.count) quanta.now }
         ensures halts { IsHalting self.old → HaltRuns (repeated count quanta.now) self.old self.new result }
         ensures goes_on { self.old.mode ≡ GoOn → GoOnRuns (repeated count quanta.now) self.old self.new result }
-        ensures halted { StaysHalted self.old self.new result }
+        ensures halted { RemainsHalted self.old self.new result }
     {
         let point = WatchPoint::new(PointKind::Touch, |spans: &[Span], addr: u32, len: u32| {
             touches(spans, addr, len)
@@ -238,7 +238,7 @@ impl Machine {
         ensures events { self.new.events ≤ self.old.events + sum_by (λ q. q.count) quanta.now }
         ensures halts { IsHalting self.old → HaltRuns quanta.now self.old self.new result }
         ensures goes_on { self.old.mode ≡ GoOn → GoOnRuns quanta.now self.old self.new result }
-        ensures halted { StaysHalted self.old self.new result }
+        ensures halted { RemainsHalted self.old self.new result }
         ensures hits { IsHalting self.old → HitsFollow (kind_of_point point.now) spans.now hits.old hits.new quanta.now self.old self.new result }
         ensures hits_in { self.old.mode ≡ GoOn → HitsFollowIn (kind_of_point point.now) spans.now hits.old hits.new quanta.now self.old self.new result }
         ensures none_halted { NoneWhereHalted self.old hits.old hits.new }
@@ -269,7 +269,7 @@ impl Machine {
         ensures events { self.new.events ≤ self.old.events + count * sum_by (λ q. q.count) quanta.now }
         ensures halts { IsHalting self.old → HaltRuns (repeated count quanta.now) self.old self.new result }
         ensures goes_on { self.old.mode ≡ GoOn → GoOnRuns (repeated count quanta.now) self.old self.new result }
-        ensures halted { StaysHalted self.old self.new result }
+        ensures halted { RemainsHalted self.old self.new result }
         ensures hits { IsHalting self.old → HitsFollow (kind_of_point point.now) spans.now hits.old hits.new (repeated count quanta.now) self.old self.new result }
         ensures hits_in { self.old.mode ≡ GoOn → HitsFollowIn (kind_of_point point.now) spans.now hits.old hits.new (repeated count quanta.now) self.old self.new result }
         ensures none_halted { NoneWhereHalted self.old hits.old hits.new }

@@ -7,7 +7,7 @@ ghost use Rattle.rv32im_step.specs.declared.access.Access.{Access};
 ghost use Rattle.rv32im_step.specs.declared.stop.Stop.TheVariants.{Call, Refused};
 ghost use Rattle.machine_world.specs.Event.{event, strays};
 ghost use Rattle.machine_world.specs.Courses.{Leads, Halts, StandsAt};
-ghost use Rattle.physical_turns.specs.Physical.{outside, first_stray, has_stray, died_in};
+ghost use Rattle.physical_turns.specs.Physical.{outside, first_stray_in, has_stray, died_in};
 ghost use Rattle.physical_turns.specs.Courses.{LeadsIn, StandsIn};
 ghost use Rattle.region_watch.specs.declared.mode.Mode.TheVariants.{Halt, GoOn};
 ghost use Rattle.kept_parts.specs.Flats.{ForRuns};
@@ -220,7 +220,7 @@ fn stray<F: Fn(&[Run], u32) -> Option<usize>, G: Fn(&[Span], u32, u32) -> bool>(
     requires noted { parts.old.noted ≡ has_stray parts.old.kept.notes }
     requires quiet { has_stray parts.old.kept.notes ≡ false }
     requires first { mode ≡ GoOn → ForRuns (kind_of chooser.now) parts.old.programs (λ a.
-        first_stray (physical_of (headers_of parts.old.programs) a parts.old.kept) pid ≡ Some access) }
+        first_stray_in (physical_of (headers_of parts.old.programs) a parts.old.kept) pid ≡ Some access) }
     ensures programs { parts.new.programs ≡ parts.old.programs }
     ensures mode { parts.new.mode ≡ parts.old.mode }
     ensures noted { parts.new.noted ≡ has_stray parts.new.kept.notes }

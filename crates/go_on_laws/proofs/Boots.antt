@@ -22,7 +22,7 @@ use Rattle.stays_laws.specs.Sound.{most_given, IsSound}
 use Rattle.stays_laws.specs.Laws.{CanBoot}
 use Rattle.stays_laws.proofs.SharedPages.{IsFree}
 use Rattle.stays_laws.proofs.SoundBegins.{pages_free, begun_sound, boots_are_sound}
-use Rattle.physical_turns.specs.Physical.{in_memory, or_below, over, bytes_in, headed, has_stray, zeros, all_headed, first_memory, opening}
+use Rattle.physical_turns.specs.Physical.{in_memory, or_below, over, bytes_in, headed, has_stray, zeros, all_headed, first_memory, opening_in}
 use Rattle.physical_turns.proofs.InMemory.{showing_shown}
 use Rattle.physical_turns.proofs.Shows.{openings_show}
 use Rattle.go_on_laws.specs.Alike.{AreHeaders, HoldsPages, Stands}
@@ -172,8 +172,8 @@ module _ (headers : List (List ℕ)) (are : AreHeaders headers) where
 
   -- ---- what is shown is the world
 
-  opens_stands : (w : World) → Opens headers 0 w → Stands w (opening headers w)
-  unfolding opening first_memory
+  opens_stands : (w : World) → Opens headers 0 w → Stands w (opening_in headers w)
+  unfolding opening_in first_memory
   opens_stands w o = record {
     world = showing_shown (first headers w) w (shows_all (first headers w) w.loads w.spaces o.sound.numbers o.shows.shown);
     shown = openings_show headers w;

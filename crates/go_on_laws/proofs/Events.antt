@@ -17,7 +17,7 @@ use Rattle.machine_world.specs.Ages.{Follows, most_changes, kept_calls, most_at_
 use Rattle.machine_world.proofs.Aging.{events_age_files}
 use Rattle.stays_laws.specs.Sound.{IsSound}
 use Rattle.stays_laws.proofs.RowSpaces.{LeavesSpace, row_leaves, row-munmap, row-mmap2}
-use Rattle.physical_turns.specs.Physical.{Physical, in_memory, shown_space, After, after, no_room, carried, answered_in, waitid_in, classed_in, asked_in, answer_in, effect_in, in_space as in_space_in, by_process as by_process_in, at_process as at_process_in, next_meaning, carried_out, has_stray, physical_event}
+use Rattle.physical_turns.specs.Physical.{Physical, in_memory, shown_space, After, after, no_room, carried, answered_in, waitid_in, classed_in, asked_in, answer_in, effect_in, in_space_in, by_process_in, at_process_in, next_meaning, carried_out, has_stray, event_in}
 use Rattle.physical_turns.specs.Wider.{Widens}
 use Rattle.physical_turns.specs.After.{AfterHas}
 use Rattle.physical_turns.specs.Growth.{LeavesPrograms}
@@ -142,7 +142,7 @@ both_none : (b : Bool) (o : Option Access) → o ≡ None → (if b then None el
 both_none true o is = refl
 both_none false o is = is
 
-pub calm : (p : Physical) (pid : ℕ) (o : Outcome) → event p.world pid ≡ o → stray_in o ≡ None → physical_event p pid ≡ carried_out p pid
+pub calm : (p : Physical) (pid : ℕ) (o : Outcome) → event p.world pid ≡ o → stray_in o ≡ None → event_in p pid ≡ carried_out p pid
 unfolding stray
 calm p pid o is none = event_in_calm p pid (both_none (has_stray p.world.notes) (stray p.world pid) (ap stray_in is ∙ none))
 
@@ -153,7 +153,7 @@ module _ (p : Physical) (pid : ℕ) (now : World) (t : Trace) (sound : IsSound p
   came : Came p now t.over (carried_out p pid)
   came = subst (λ (o : Outcome). Goes p o (carried_out p pid)) is (goes_event p sound stands pid)
 
-  same_event : physical_event p pid ≡ after came.behind t.over
+  same_event : event_in p pid ≡ after came.behind t.over
   same_event = calm p pid (went now t) is refl ∙ came.is
 
   same_pages : now.rest.pages ≡ p.world.rest.pages

@@ -20,13 +20,14 @@ use Rattle.mmap_rules.specs.Held.{page_address}
 use Rattle.mmap_rules.specs.Want.{wanted}
 use Rattle.mmap_rules.specs.Mappings.{page_at}
 use Rattle.mmap_rules.proofs.Lists.{each_append, each_one}
+use Rattle.mmap_rules.specs.Copies.{wanted_bytes, pages_of}
 use Rattle.region_watch.specs.Private.{only}
 use Rattle.mem_files.specs.Inodes.{Inodes, inode_at}
 use Rattle.vfork_exec.specs.Keyed.{find, change}
 use Rattle.machine_world.specs.World.{Process, LiveSpace, World, id_of}
 use Rattle.machine_world.specs.Free.{is_held, free_runs_in}
 use Rattle.machine_world.specs.Asks.{Ask, arg, leaves, with_ok, view_of}
-use Rattle.machine_world.specs.MapCalls.{all_maps, in_copy, with_mapping, lowest, has_pages, shared, pages_of, own_run, in_free_run, first_bytes, maps, or_own, mapped, file_side, mmap2_row}
+use Rattle.machine_world.specs.MapCalls.{all_maps, in_copy, with_mapping, lowest, has_pages, shared, own_run, in_free_run, maps, or_own, mapped, file_side, mmap2_row}
 use Rattle.machine_world.specs.Event.{Trace, went, ask_of, answered}
 use Rattle.machine_world.proofs.States.{with_own}
 use Rattle.stays_laws.specs.Sound.{AreApart, HoldsSource, IsSound}
@@ -209,14 +210,14 @@ module _ (p : Physical) (sound : IsSound p.world) (stands : Stands p.world p) (q
 
   abbrev Maps : Want → Mapping → Type 0
   Maps want m =
-      Goes p (answered p.world the_ask (leaves the_ask m.range.from (with_mapping s.space m (first_bytes nodes want))))
-      (answered_in p the_ask (leaves the_ask m.range.from (with_mapping s.space m (first_bytes nodes want))))
+      Goes p (answered p.world the_ask (leaves the_ask m.range.from (with_mapping s.space m (wanted_bytes nodes want))))
+      (answered_in p the_ask (leaves the_ask m.range.from (with_mapping s.space m (wanted_bytes nodes want))))
 
   abbrev its_around : Around q.space s p.world.spaces
   its_around = around q.space p.world.loads s p.world.spaces sound.numbers has
 
   abbrev More : Want → Mapping → Type 0
-  More want m = IsMore p.world.rest.pages (its_around.front ++ (s.space.maps ++ its_around.back)) s.space nodes m (first_bytes nodes want)
+  More want m = IsMore p.world.rest.pages (its_around.front ++ (s.space.maps ++ its_around.back)) s.space nodes m (wanted_bytes nodes want)
 
   abbrev own_choice : Want → Option Mapping
   own_choice want = in_free_run p.world.rest.kind (free_runs_in p.world.rest.pages p.world.spaces) want
@@ -230,13 +231,13 @@ module _ (p : Physical) (sound : IsSound p.world) (stands : Stands p.world p) (q
   maps_own : (want : Want) (page : ℕ) → IsFree p.world.rest.pages p.world.spaces page (pages_of want) → More want (own_run want page) → Maps want (own_run want page)
   maps_own (Anon pages) page free more =
       goes_leaves p sound stands q s has bytes (page_address page) _
-      (came_fresh (own_run (Anon pages) page) (first_bytes nodes (Anon pages)) page pages free refl refl refl refl more.long more.holds)
+      (came_fresh (own_run (Anon pages) page) (wanted_bytes nodes (Anon pages)) page pages free refl refl refl refl more.long more.holds)
   maps_own (File pages first true id change) page free more =
       goes_leaves p sound stands q s has bytes (page_address page) _
-      (came_fresh (own_run (File pages first true id change) page) (first_bytes nodes (File pages first true id change)) page pages free refl refl refl refl more.long more.holds)
+      (came_fresh (own_run (File pages first true id change) page) (wanted_bytes nodes (File pages first true id change)) page pages free refl refl refl refl more.long more.holds)
   maps_own (File pages first false id change) page free more =
       goes_leaves p sound stands q s has bytes (page_address page) _
-      (came_fresh (own_run (File pages first false id change) page) (first_bytes nodes (File pages first false id change)) page pages free refl refl refl refl more.long more.holds)
+      (came_fresh (own_run (File pages first false id change) page) (wanted_bytes nodes (File pages first false id change)) page pages free refl refl refl refl more.long more.holds)
 
   maps_free : (want : Want) (m : Mapping) → 0 < pages_of want → More want m → (o : Option ℕ)
       → first_of (free_runs_in p.world.rest.pages p.world.spaces) (place p.world.rest.kind (free_runs_in p.world.rest.pages p.world.spaces) (pages_of want)) ≡ o
@@ -254,7 +255,7 @@ module _ (p : Physical) (sound : IsSound p.world) (stands : Stands p.world p) (q
     part = shared first pages c
 
     abbrev file_bytes : List ℕ
-    file_bytes = first_bytes nodes (File pages first false id change)
+    file_bytes = wanted_bytes nodes (File pages first false id change)
 
     has_it : HasSource p.memory nodes part c.source
     has_it =

@@ -18,13 +18,13 @@ use Rattle.machine_world.specs.Asks.{Ask, Reply, Row, replies, waits, arg, gives
 use Rattle.machine_world.specs.FamilyCalls.{who_of, waitid_fault, no_info, info_at}
 use Rattle.machine_world.specs.Rows.{row}
 use Rattle.machine_world.specs.Event.{Outcome, went, strays, full, idle, trapped, served, waited, told_in, ask_of, classed}
-use Rattle.physical_turns.specs.Physical.{Physical, in_memory, After, after, no_room, nobody, carried, settled_in, outside, killed, put_in, answered_in, full_at, reaped_in, waitid_behind_in, waitid_in, writes_nothing, classed_in, asked_in, answer_in, effect_in, in_space, by_process, at_process, next_meaning, carried_out, first_stray, with_stray, physical_event, opening}
+use Rattle.physical_turns.specs.Physical.{Physical, in_memory, After, after, no_room, nobody, carried, settled_in, outside, killed, put_in, answered_in, full_at, reaped_in, waitid_behind_in, waitid_in, writes_nothing, classed_in, asked_in, answer_in, effect_in, in_space_in, by_process_in, at_process_in, next_meaning, carried_out, first_stray_in, with_stray, event_in, opening_in}
 use Rattle.physical_turns.specs.After.{AfterHas}
 use Rattle.physical_turns.proofs.ByTurnsIn.{by_turn_in, by_run_in}
 use Rattle.go_on_laws.specs.Marks.{HasNoMark, OpeningsHaveNoMark, EventsHaveNoMark, TurnsHaveNoMark, RunsHaveNoMark}
 
 pub openings_have_no_mark : OpeningsHaveNoMark
-unfolding opening
+unfolding opening_in
 openings_have_no_mark headers w unmarked = unmarked
 
 -- ---- where the log has no room no pipe was marked before
@@ -103,16 +103,16 @@ module _ (p : Physical) (unmarked : HasNoMark p.world) where
   marks_effect_in q s (trap signal) = marks_settled_in (killed p q signal) (full_killed q signal)
   marks_effect_in q s (refused access) = marks_settled_in (killed p q outside) (full_killed q outside)
 
-  marks_space_in : (q : Process) (o : Option LiveSpace) → AfterHas HasNoMark (in_space (λ r s. effect_in p r s (next_meaning p r)) q o)
+  marks_space_in : (q : Process) (o : Option LiveSpace) → AfterHas HasNoMark (in_space_in (λ r s. effect_in p r s (next_meaning p r)) q o)
   marks_space_in q None = tt
   marks_space_in q (Some s) = marks_effect_in q s.space (next_meaning p q)
 
-  marks_process_in : (o : Option Process) → AfterHas HasNoMark (by_process p.world.spaces (λ q s. effect_in p q s (next_meaning p q)) o)
+  marks_process_in : (o : Option Process) → AfterHas HasNoMark (by_process_in p.world.spaces (λ q s. effect_in p q s (next_meaning p q)) o)
   marks_process_in None = tt
   marks_process_in (Some q) = marks_space_in q (find id_of q.space p.world.spaces)
 
   marks_carried_out : (pid : ℕ) → AfterHas HasNoMark (carried_out p pid)
-  unfolding carried_out at_process
+  unfolding carried_out at_process_in
   marks_carried_out pid = marks_process_in (find pid_of pid p.world.procs)
 
 -- the note of a stray access marks none
@@ -121,8 +121,8 @@ marks_stray_in p pid None unmarked = unmarked
 marks_stray_in p pid (Some access) unmarked = unmarked
 
 pub events_have_no_mark : EventsHaveNoMark
-unfolding physical_event
-events_have_no_mark p pid unmarked = marks_carried_out (with_stray pid (first_stray p pid) p) (marks_stray_in p pid (first_stray p pid) unmarked) pid
+unfolding event_in
+events_have_no_mark p pid unmarked = marks_carried_out (with_stray pid (first_stray_in p pid) p) (marks_stray_in p pid (first_stray_in p pid) unmarked) pid
 
 -- ---- turns and runs
 

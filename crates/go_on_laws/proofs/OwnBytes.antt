@@ -11,12 +11,12 @@ use Rattle.quantum_sched.specs.Picked.{picked}
 use Rattle.machine_world.specs.World.{World}
 use Rattle.machine_world.specs.Families.{MayRun, ready_pids}
 use Rattle.machine_world.specs.Event.{Trace, Outcome, went, strays, full, idle, noted, event}
-use Rattle.machine_world.specs.Turns.{Walk, End, stray_at, seen_of, traced, stays_at, turned, turn, going_on, quantum_turn, turns}
+use Rattle.machine_world.specs.Turns.{Walk, End, stray_at, seen_of, traced, remains_at, turned, turn, going_on, quantum_turn, turns}
 use Rattle.machine_world.proofs.TurnLaws.{turn_strays}
 use Rattle.machine_world.proofs.Runnable.{may_run_still, ready_found}
 use Rattle.stays_laws.specs.Sound.{IsSound}
 use Rattle.stays_laws.proofs.SoundRuns.{boots_are_sound, events_keep_sound, turns_keep_sound}
-use Rattle.physical_turns.specs.Physical.{Physical, in_memory, shown_space, opening}
+use Rattle.physical_turns.specs.Physical.{Physical, in_memory, shown_space, opening_in}
 use Rattle.go_on_laws.specs.Alike.{Stands}
 use Rattle.go_on_laws.specs.OwnBytes.{OwnBytesAreThere, ShownBytesAreThere, RunsHaveOwnBytes}
 use Rattle.go_on_laws.proofs.Pages.{own_inside}
@@ -65,7 +65,7 @@ module _ (w : World) (pid : ℕ) (may : MayRun w pid) (h : Stood w) where
       record { sound = events_keep_sound w pid now t h.sound may is; memory = leads.behind; stands = leads.stands }
 
   -- a note changes nothing of it
-  stood_strays : (access : Access) → event w pid ≡ strays access → StoodBehind (stays_at (noted (stray_note pid (seen_of access)) w) (Some (stray_at pid access)))
+  stood_strays : (access : Access) → event w pid ≡ strays access → StoodBehind (remains_at (noted (stray_note pid (seen_of access)) w) (Some (stray_at pid access)))
   stood_strays access is = record {
     sound = subst (λ (walk : Walk). IsSound walk.world) (turn_strays pid w access is 1 (omega arith)) (turns_keep_sound 1 pid w h.sound may);
     memory = record h.memory { world = noted (stray_note pid (seen_of access)) w };
@@ -75,7 +75,7 @@ module _ (w : World) (pid : ℕ) (may : MayRun w pid) (h : Stood w) where
   stood_turned : (more : World → Walk) → ((v : World) → MayRun v pid → Stood v → StoodBehind (more v)) → (o : Outcome) → event w pid ≡ o → StoodBehind (turned more w pid o)
   stood_turned more on (went now t) is = over t.over refl
     where
-      over : (b : Bool) → t.over ≡ b → StoodBehind (traced t (if b then stays_at now None else more now))
+      over : (b : Bool) → t.over ≡ b → StoodBehind (traced t (if b then remains_at now None else more now))
       over true ends = stood_went now t is
       over false ends = on now (may_run_still w pid now t may is ends) (stood_went now t is)
   stood_turned more on (strays access) is = stood_strays access is
@@ -112,6 +112,6 @@ runs_have_own_bytes rest starts w quanta can few is =
     (stood_turns quanta w
     (record {
       sound = boots_are_sound rest starts w can few is;
-      memory = opening [] w;
+      memory = opening_in [] w;
       stands = boots_go_on rest starts w [] can few (λ i header there. absurd cc) is;
     }))

@@ -14,7 +14,7 @@ use Rattle.machine_world.specs.Laws.{refused_outcome}
 use Rattle.machine_world.proofs.States.{change_same}
 use Rattle.machine_world.proofs.Awake.{not_awake}
 use Rattle.machine_world.proofs.Refused.{is_refused, maps_nothing, brings_none, brought_none, brings_nothing}
-use Rattle.physical_turns.specs.Physical.{Physical, after, shown_space, carried, settled_in, asked_in, answer_in, effect_in, carried_out, first_stray, with_stray}
+use Rattle.physical_turns.specs.Physical.{Physical, after, shown_space, carried, settled_in, asked_in, answer_in, effect_in, carried_out, first_stray_in, with_stray}
 use Rattle.physical_turns.specs.Courses.{IsShown}
 use Rattle.physical_turns.proofs.InMemory.{plain_behind}
 use Rattle.physical_turns.proofs.Moves.{carried_is, event_in_carried}
@@ -65,4 +65,4 @@ still_unmarked p pid None unmarked = unmarked
 pub refused_events_leave_memory : RefusedEventsLeaveMemory
 refused_events_leave_memory p pid shown unmarked c e is =
     event_in_carried p pid
-    ∙ refusals_leave_memory (with_stray pid (first_stray p pid) p) pid c e (still_shown p pid (first_stray p pid) shown) (still_unmarked p pid (first_stray p pid) unmarked) is
+    ∙ refusals_leave_memory (with_stray pid (first_stray_in p pid) p) pid c e (still_shown p pid (first_stray_in p pid) shown) (still_unmarked p pid (first_stray_in p pid) unmarked) is

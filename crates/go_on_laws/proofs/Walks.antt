@@ -13,13 +13,13 @@ use Rattle.machine_world.specs.World.{Process, LiveSpace, Rest, World, pid_of, i
 use Rattle.machine_world.specs.Families.{MayRun, ready_pids}
 use Rattle.machine_world.specs.Asks.{Ask, Row, replies, waits}
 use Rattle.machine_world.specs.Event.{Trace, Outcome, went, strays, full, idle, noted, ended, ask_of, event, stray}
-use Rattle.machine_world.specs.Turns.{Walk, End, all_ended, stuck, out_of_quanta, stray_at, log_full, seen_of, stays_at, traced, turned, turn, going_on, none_runs, quantum_turn, last_end, turns}
+use Rattle.machine_world.specs.Turns.{Walk, End, all_ended, stuck, out_of_quanta, stray_at, log_full, seen_of, remains_at, traced, turned, turn, going_on, none_runs, quantum_turn, last_end, turns}
 use Rattle.machine_world.proofs.Kept.{Answers}
 use Rattle.machine_world.proofs.ByEvents.{Went, Answered, Happened, by_event}
 use Rattle.machine_world.proofs.Runnable.{may_run_still, ready_found}
 use Rattle.stays_laws.specs.Sound.{IsSound}
 use Rattle.stays_laws.proofs.SoundRuns.{events_keep_sound, turns_keep_sound}
-use Rattle.physical_turns.specs.Physical.{Physical, After, after, no_room, nobody, carried_out, has_stray, physical_event, Walk as WalkIn, stays_at as stays_in, turned as turned_in, physical_turn, going_on as going_on_in, quantum_turn as quantum_turn_in, physical_turns}
+use Rattle.physical_turns.specs.Physical.{Physical, After, after, no_room, nobody, carried_out, has_stray, event_in, WalkIn, remains_at_in, turned_in, turn_in, going_on_in, quantum_turn_in, turns_in}
 use Rattle.physical_turns.specs.Growth.{Adds}
 use Rattle.physical_turns.proofs.Moves.{first_strays, noted_unstrayed, event_in_strays, event_in_calm}
 use Rattle.physical_turns.proofs.Growth.{turns_add, runs_add}
@@ -92,59 +92,59 @@ module _ (p : Physical) (pid : ℕ) (access : Access) (sound : IsSound p.world) 
   unfolding stray
   first_is = rw is refl
 
-  same_event : physical_event p pid ≡ physical_event there pid
+  same_event : event_in p pid ≡ event_in there pid
   same_event =
       event_in_strays p pid access (first_strays p pid access none first_is)
       ∙ sym (event_in_calm there pid (noted_unstrayed there pid refl))
 
-  is_done : Done (physical_event p pid)
+  is_done : Done (event_in p pid)
   is_done =
       let l = some_lives p.world pid sound may in
       subst Done (sym (event_in_strays p pid access (first_strays p pid access none first_is))) (done_carried_out there pid l.process l.space l.lives l.has)
 
-  same_turn : (n : ℕ) → physical_turn (suc n) pid p ≡ physical_turn (suc n) pid there
-  unfolding physical_turn
-  same_turn n = turned_same (physical_turn n pid) p there (physical_event p pid) is_done ∙ ap (turned_in (physical_turn n pid) there) same_event
+  same_turn : (n : ℕ) → turn_in (suc n) pid p ≡ turn_in (suc n) pid there
+  unfolding turn_in
+  same_turn n = turned_same (turn_in n pid) p there (event_in p pid) is_done ∙ ap (turned_in (turn_in n pid) there) same_event
 
-  strayed_adds : (n : ℕ) → Adds (noted (stray_note pid (seen_of access)) p.world) (physical_turn (suc n) pid p).now.world
+  strayed_adds : (n : ℕ) → Adds (noted (stray_note pid (seen_of access)) p.world) (turn_in (suc n) pid p).now.world
   strayed_adds n = subst (λ (walk : WalkIn). Adds there.world walk.now.world) (sym (same_turn n)) (turns_add (suc n) pid there)
 
 -- ---- turns
 
 goes_turn : (count pid : ℕ) (w : World) (p : Physical) → IsSound w → MayRun w pid → Stands w p → has_stray w.notes ≡ false
-    → GoesAlike (turn count pid w).world (physical_turn count pid p) (turn count pid w).end
-unfolding turn physical_turn
+    → GoesAlike (turn count pid w).world (turn_in count pid p) (turn count pid w).end
+unfolding turn turn_in
 goes_turn zero pid w p sound may stands none = record { stands = stands; ends = refl; unstrayed = none }
 goes_turn (suc n) pid w p sound may stands none =
     by (event w pid) refl (λ now behind kept still on unstrayed. goes_turn n pid now behind kept still on unstrayed)
   where
     by : (o : Outcome) → event w pid ≡ o
         → ((now : World) (behind : Physical) → IsSound now → MayRun now pid → Stands now behind → has_stray now.notes ≡ false
-        → GoesAlike (turn n pid now).world (physical_turn n pid behind) (turn n pid now).end)
-        → GoesAlike (turned (turn n pid) w pid o).world (turned_in (physical_turn n pid) p (physical_event p pid)) (turned (turn n pid) w pid o).end
+        → GoesAlike (turn n pid now).world (turn_in n pid behind) (turn n pid now).end)
+        → GoesAlike (turned (turn n pid) w pid o).world (turned_in (turn_in n pid) p (event_in p pid)) (turned (turn n pid) w pid o).end
     by (went now t) is more =
         let lead : LeadsTo p pid now t.over = events_go_on w p pid now t sound stands is in
         let unstrayed = still_unstrayed w pid now t is none in
-        subst (λ (a : After). GoesAlike (turned (turn n pid) w pid (went now t)).world (turned_in (physical_turn n pid) p a) (turned (turn n pid) w pid (went now t)).end) (sym lead.comes.1)
+        subst (λ (a : After). GoesAlike (turned (turn n pid) w pid (went now t)).world (turned_in (turn_in n pid) p a) (turned (turn n pid) w pid (went now t)).end) (sym lead.comes.1)
         (over t.over refl lead.behind lead.stands unstrayed)
       where
         over : (b : Bool) → t.over ≡ b → (behind : Physical) → Stands now behind → has_stray now.notes ≡ false
-            → GoesAlike (traced t (if b then stays_at now None else turn n pid now)).world (if b then stays_in behind None else physical_turn n pid behind)
-            (traced t (if b then stays_at now None else turn n pid now)).end
+            → GoesAlike (traced t (if b then remains_at now None else turn n pid now)).world (if b then remains_at_in behind None else turn_in n pid behind)
+            (traced t (if b then remains_at now None else turn n pid now)).end
         over true ends behind on unstrayed = record { stands = on; ends = refl; unstrayed = unstrayed }
         over false ends behind on unstrayed = more now behind (events_keep_sound w pid now t sound may is) (may_run_still w pid now t may is ends) on unstrayed
     by (strays access) is more =
         subst (λ (v : World). IsSound v → MayRun v pid → has_stray v.notes ≡ false → event v pid ≡ strays access
-        → GoesPast (noted (stray_note pid (seen_of access)) v) (physical_turn (suc n) pid p) pid access) stands.world
+        → GoesPast (noted (stray_note pid (seen_of access)) v) (turn_in (suc n) pid p) pid access) stands.world
         (λ s m u e. record { before = p.world; newest = refl; first = u; adds = strayed_adds p pid access s m u e n }) sound may none is
     by full is more =
-        subst (λ (a : After). GoesAlike w (turned_in (physical_turn n pid) p a) (Some log_full)) (sym (full_events_go_on w p pid sound stands is).1)
+        subst (λ (a : After). GoesAlike w (turned_in (turn_in n pid) p a) (Some log_full)) (sym (full_events_go_on w p pid sound stands is).1)
         (record { stands = stands; ends = refl; unstrayed = none })
     by idle is more =
-        let nothing : physical_event p pid ≡ nobody =
-        subst (λ (v : World). IsSound v → Stands v p → event v pid ≡ idle → physical_event p pid ≡ nobody) stands.world
+        let nothing : event_in p pid ≡ nobody =
+        subst (λ (v : World). IsSound v → Stands v p → event v pid ≡ idle → event_in p pid ≡ nobody) stands.world
         (λ s h e. calm p pid idle e refl ∙ subst (λ (o : Outcome). Goes p o (carried_out p pid)) e (goes_event p s h pid)) sound stands is in
-        subst (λ (a : After). GoesAlike w (turned_in (physical_turn n pid) p a) None) (sym nothing) (record { stands = stands; ends = refl; unstrayed = none })
+        subst (λ (a : After). GoesAlike w (turned_in (turn_in n pid) p a) None) (sym nothing) (record { stands = stands; ends = refl; unstrayed = none })
 
 pub turns_go_on : TurnsGoOn
 turns_go_on = goes_turn
@@ -162,7 +162,7 @@ abbrev IsCalm : End → Type 0
 IsCalm (stray_at pid access) = ⊥
 IsCalm end = Unit {0}
 
-on_stops : (w : World) (p : Physical) (end : End) → IsCalm end → Stands w p → has_stray w.notes ≡ false → GoesAlike w (stays_in p (Some end)) (Some end)
+on_stops : (w : World) (p : Physical) (end : End) → IsCalm end → Stands w p → has_stray w.notes ≡ false → GoesAlike w (remains_at_in p (Some end)) (Some end)
 on_stops w p all_ended is stands none = record { stands = stands; ends = refl; unstrayed = none }
 on_stops w p stuck is stands none = record { stands = stands; ends = refl; unstrayed = none }
 on_stops w p out_of_quanta is stands none = record { stands = stands; ends = refl; unstrayed = none }
@@ -218,20 +218,20 @@ module _ (more : World → Walk) (more_in : Physical → WalkIn) (adds : (p : Ph
       → GoesAlike (quantum_turn more p.world count chosen).world (quantum_turn_in more_in p count chosen) (quantum_turn more p.world count chosen).end
   goes_quantum p count None sound stands none may = on_stops p.world p (none_runs p.world) (none_calm p.world) stands none
   goes_quantum p count (Some pid) sound stands none may =
-      goes_going (turn count pid p.world) (physical_turn count pid p) (turns_keep_sound count pid p.world sound (may pid refl)) (goes_turn count pid p.world p sound (may pid refl) stands none)
+      goes_going (turn count pid p.world) (turn_in count pid p) (turns_keep_sound count pid p.world sound (may pid refl)) (goes_turn count pid p.world p sound (may pid refl) stands none)
 
-goes_run : (quanta : List Quantum) (w : World) (p : Physical) → IsSound w → Stands w p → has_stray w.notes ≡ false → GoesAlike (turns quanta w).world (physical_turns quanta p) (turns quanta w).end
-unfolding turns physical_turns
+goes_run : (quanta : List Quantum) (w : World) (p : Physical) → IsSound w → Stands w p → has_stray w.notes ≡ false → GoesAlike (turns quanta w).world (turns_in quanta p) (turns quanta w).end
+unfolding turns turns_in
 goes_run [] w p sound stands none =
-    subst (λ (v : World). Stands v p → has_stray v.notes ≡ false → GoesAlike v (stays_in p (Some (last_end p.world (ready_pids p.world.procs)))) (Some (last_end v (ready_pids v.procs)))) stands.world
+    subst (λ (v : World). Stands v p → has_stray v.notes ≡ false → GoesAlike v (remains_at_in p (Some (last_end p.world (ready_pids p.world.procs)))) (Some (last_end v (ready_pids v.procs)))) stands.world
     (λ s n. on_stops p.world p (last_end p.world (ready_pids p.world.procs)) (last_calm p.world (ready_pids p.world.procs)) s n) stands none
 goes_run (q ∷ qs) w p sound stands none =
-    let on : (v : World) (r : Physical) → IsSound v → Stands v r → has_stray v.notes ≡ false → GoesAlike (turns qs v).world (physical_turns qs r) (turns qs v).end =
+    let on : (v : World) (r : Physical) → IsSound v → Stands v r → has_stray v.notes ≡ false → GoesAlike (turns qs v).world (turns_in qs r) (turns qs v).end =
     (λ v r s h n. goes_run qs v r s h n) in
     subst (λ (v : World). IsSound v → Stands v p → has_stray v.notes ≡ false
-    → GoesAlike (quantum_turn (turns qs) v q.count (picked q.pick (ready_pids v.procs))).world (quantum_turn_in (physical_turns qs) p q.count (picked q.pick (ready_pids p.world.procs)))
+    → GoesAlike (quantum_turn (turns qs) v q.count (picked q.pick (ready_pids v.procs))).world (quantum_turn_in (turns_in qs) p q.count (picked q.pick (ready_pids p.world.procs)))
     (quantum_turn (turns qs) v q.count (picked q.pick (ready_pids v.procs))).end) stands.world
-    (λ s h n. goes_quantum (turns qs) (physical_turns qs) (λ r. runs_add qs r) on p q.count (picked q.pick (ready_pids p.world.procs)) s h n
+    (λ s h n. goes_quantum (turns qs) (turns_in qs) (λ r. runs_add qs r) on p q.count (picked q.pick (ready_pids p.world.procs)) s h n
     (λ pid is. ready_found p.world.procs p.world.next_pid q.pick pid is s.pids)) sound stands none
 
 pub runs_go_on : RunsGoOn

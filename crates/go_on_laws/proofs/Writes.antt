@@ -6,7 +6,7 @@ use Rattle.byte_words.specs.ByteMap.{Bytes, with_byte, with_bytes}
 use Rattle.rv32im_step.specs.declared.regs.Regs.{Regs}
 use Rattle.call_log.specs.declared.errno.Errno.{Errno}
 use Rattle.call_log.specs.Errno.{refusal}
-use Rattle.call_log.specs.Notes.{Written}
+use Rattle.call_log.specs.Notes.{GotRange}
 use Rattle.call_log.specs.Sent.{Span}
 use Rattle.mmap_rules.specs.declared.mapping.Mapping.{Mapping}
 use Rattle.mmap_rules.specs.Space.{Space, own_in, writable_in, may_use}
@@ -58,7 +58,7 @@ pub bytes_there : (m : Bytes) (addr : ℕ) (bs : List ℕ) (a : ℕ) → is_some
 bytes_there m addr [] a is = is
 bytes_there m addr (b ∷ bs) a is = byte_there (with_bytes m (addr + 1) bs) addr b a (bytes_there m (addr + 1) bs a is)
 
-put_there : (gots : List Written) (m now : Bytes) (may : ℕ → Bool) (a : ℕ) → put_got m may gots ≡ Ok now → is_some (m a) ≡ true → is_some (now a) ≡ true
+put_there : (gots : List GotRange) (m now : Bytes) (may : ℕ → Bool) (a : ℕ) → put_got m may gots ≡ Ok now → is_some (m a) ≡ true → is_some (now a) ≡ true
 put_there [] m now may a is there = let same : m ≡ now = cc in ap (λ (f : Bytes). is_some (f a)) (sym same) ∙ there
 put_there (got ∷ gots) m now may a is there = by (may_use may got.addr (length got.bytes)) is
     (λ rest. put_there gots (with_bytes m got.addr got.bytes) now may a rest (bytes_there m got.addr got.bytes a there))
@@ -193,7 +193,7 @@ module _ (p : Physical) (sound : IsSound p.world) (stands : Stands p.world p) (q
             subst (λ (o : Result Bytes Span). Goes p (served p.world the_ask r part) (put_in p the_ask r o)) (sym wider.put)
             (goes_served r same part wider.all wider.grows (λ a was. put_there r.got (only (own_in s.space.maps) p.memory) part (writable_in s.space.maps) a put_part was))
 
-    pub goes_gives : (value : ℕ) (got : List Written) → Goes p (answered p.world the_ask (gives the_ask value got p.world.rest)) (answered_in p the_ask (gives the_ask value got p.world.rest))
+    pub goes_gives : (value : ℕ) (got : List GotRange) → Goes p (answered p.world the_ask (gives the_ask value got p.world.rest)) (answered_in p the_ask (gives the_ask value got p.world.rest))
     goes_gives value got = goes_replied (record { value = value; got = got; rest = p.world.rest; space = s.space; over = false }) (record { maps = refl; bytes = refl })
 
     pub goes_refuses : (errno : Errno) → Goes p (answered p.world the_ask (refuses the_ask errno)) (answered_in p the_ask (refuses the_ask errno))

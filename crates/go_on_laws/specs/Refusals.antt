@@ -9,7 +9,7 @@ use Rattle.machine_world.specs.World.{Process, LiveSpace, pid_of, id_of}
 use Rattle.machine_world.specs.Asks.{Ask, refuses}
 use Rattle.machine_world.specs.Event.{Outcome, went, strays, full, idle, ask_of}
 use Rattle.machine_world.specs.Laws.{refused_outcome}
-use Rattle.physical_turns.specs.Physical.{Physical, After, after, no_room, nobody, next_meaning, answered_in, classed_in, carried_out, first_stray, with_stray, physical_event}
+use Rattle.physical_turns.specs.Physical.{Physical, After, after, no_room, nobody, next_meaning, answered_in, classed_in, carried_out, first_stray_in, with_stray, event_in}
 use Rattle.physical_turns.specs.Courses.{IsShown}
 
 -- a process that lives stands at a system call, and what it reads is in memory
@@ -48,6 +48,6 @@ RefusalsLeaveMemory =
 abbrev pub RefusedEventsLeaveMemory : Type 0
 RefusedEventsLeaveMemory =
     (p : Physical) (pid : ℕ) → IsShown p → p.world.rest.files.changed ≡ [] →
-    let noted : Physical = with_stray pid (first_stray p pid) p in
+    let noted : Physical = with_stray pid (first_stray_in p pid) p in
     (c : CallIn noted pid) (e : Errno) → IsRefusedIn noted pid c e →
-    physical_event p pid ≡ over_memory noted (refused_outcome noted.world c.process (ask_in noted pid c) e)
+    event_in p pid ≡ over_memory noted (refused_outcome noted.world c.process (ask_in noted pid c) e)

@@ -3,11 +3,11 @@ use Rattle.std.proofs.Common.{◌≡◌, ◌≢◌, ℕ, ◌==◌, Bool, true, c
 use Rattle.std.specs.Prelude.{codes}
 use Rattle.std.specs.List.{AllByRecursion}
 use Rattle.std.proofs.lemmas.Bool.{cases_Bool, eqb-true, eqb-false}
-use Rattle.call_log.specs.Notes.{Written}
+use Rattle.call_log.specs.Notes.{GotRange}
 use Rattle.call_log.specs.Lines.{joined, sent_text, got_text}
 use Rattle.call_log.specs.Numbers as numbers
 use Rattle.items_text.specs.declared.heads.CallHead.{CallHead}
-use Rattle.items_text.specs.Items.{ItemValue, IsItem, HoldsWritten, HoldsItem}
+use Rattle.items_text.specs.Items.{ItemValue, IsItem, HoldsGot, HoldsItem}
 use Rattle.items_text.specs.Lines.{item_line}
 use Rattle.items_text.specs.Pieces.{behind, cut_at, number_at, bytes_at}
 use Rattle.items_text.specs.Reading.{head_text, head_at, range_of, ranges_at, may_bring, item_from, item_at}
@@ -21,15 +21,15 @@ use Rattle.items_text.proofs.Strings.{joined_onto, bytes_again, bytes_found, cut
 abbrev pub IsHeldItem : ItemValue → Type 0
 IsHeldItem i = HoldsItem i × IsItem i
 
-both_of : (ws : List Written) → AllByRecursion HoldsWritten ws → AllByRecursion (λ (w : Written). w.bytes ≢ []) ws → AllByRecursion IsRange ws
+both_of : (ws : List GotRange) → AllByRecursion HoldsGot ws → AllByRecursion (λ (w : GotRange). w.bytes ≢ []) ws → AllByRecursion IsRange ws
 both_of [] held some = tt
 both_of (w ∷ ws) held some = ((held.0, some.0), both_of ws held.1 some.1)
 
-held_of : (ws : List Written) → AllByRecursion IsRange ws → AllByRecursion HoldsWritten ws
+held_of : (ws : List GotRange) → AllByRecursion IsRange ws → AllByRecursion HoldsGot ws
 held_of [] all = tt
 held_of (w ∷ ws) all = (all.0.0, held_of ws all.1)
 
-some_of : (ws : List Written) → AllByRecursion IsRange ws → AllByRecursion (λ (w : Written). w.bytes ≢ []) ws
+some_of : (ws : List GotRange) → AllByRecursion IsRange ws → AllByRecursion (λ (w : GotRange). w.bytes ≢ []) ws
 some_of [] all = tt
 some_of (w ∷ ws) all = (all.0.1, some_of ws all.1)
 

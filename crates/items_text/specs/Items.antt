@@ -1,7 +1,7 @@
 -- The items of a space as plain values, and what a text of them asks for.
 use Rattle.std.specs.Prelude.{◌≡◌, ◌≢◌, ℕ, ◌%◌, ◌^◌, ◌<◌, ◌≤◌, Bool, true, not, ◌==◌, List, [], length}
 use Rattle.std.specs.List.{list_all, AllByRecursion}
-use Rattle.call_log.specs.Notes.{Written, CallEntry}
+use Rattle.call_log.specs.Notes.{GotRange, CallEntry}
 use Rattle.call_log.specs.Numbers as numbers
 
 -- a call as it was answered, and the bytes that its mapping of a file brought
@@ -47,7 +47,7 @@ IsString bytes = is_string bytes ≡ true
 -- six arguments, no range of output that is empty, and bytes brought by mmap2 alone
 pub record IsItem (i : ItemValue) : Type 0 where
   pub args : length i.entry.args ≡ 6
-  pub got : AllByRecursion (λ (w : Written). w.bytes ≢ []) i.entry.got
+  pub got : AllByRecursion (λ (w : GotRange). w.bytes ≢ []) i.entry.got
   pub brought : i.entry.call ≢ numbers.mmap2 → i.brought ≡ []
 
 -- such items have a text
@@ -62,7 +62,7 @@ pub record AreSpelled (i : ItemsValue) : Type 0 where
 abbrev pub AreBytes : List ℕ → Type 0
 AreBytes bytes = AllByRecursion (λ b. b < 2 ^ 8) bytes
 
-pub record HoldsWritten (w : Written) : Type 0 where
+pub record HoldsGot (w : GotRange) : Type 0 where
   pub addr : w.addr < 2 ^ 32
   pub bytes : AreBytes w.bytes
 
@@ -72,7 +72,7 @@ pub record HoldsItem (i : ItemValue) : Type 0 where
   pub args : AllByRecursion (λ a. a < 2 ^ 32) i.entry.args
   pub sent : AreBytes i.entry.sent
   pub reply : i.entry.reply < 2 ^ 32
-  pub got : AllByRecursion HoldsWritten i.entry.got
+  pub got : AllByRecursion HoldsGot i.entry.got
   pub brought : AreBytes i.brought
 
 -- numbers and bytes of these sizes: what any `Items` of the code has

@@ -1,6 +1,6 @@
 -- How a text of items is read, and what reading it gives.
 use Rattle.std.specs.Prelude.{◌≡◌, ℕ, ◌+◌, ◌%◌, ◌==◌, Bool, true, ◌&&◌, nat_le, if◌then◌else◌, List, [], ◌∷◌, ◌++◌, length, codes, Option, Some, None, option_map, Result, Ok, Err}
-use Rattle.call_log.specs.Notes.{Written}
+use Rattle.call_log.specs.Notes.{GotRange}
 use Rattle.call_log.specs.Lines.{word_digits}
 use Rattle.call_log.specs.Numbers as numbers
 use Rattle.items_text.specs.declared.fault.ItemsFault.{ItemsFault}
@@ -78,7 +78,7 @@ head_at text = do
   Some (head, rest)
 
 -- a range that was written, `ADDR:HEX`
-unfoldable pub range_of : List ℕ → Option Written
+unfoldable pub range_of : List ℕ → Option GotRange
 range_of word = do
   addr ← number_at 16 most_word 58 word
   digits ← behind (word_digits addr.0 ++ codes ":") word
@@ -86,18 +86,18 @@ range_of word = do
   Some (record { addr = addr.0; bytes = bytes })
 
 -- one with the space behind it
-unfoldable pub range_at : List ℕ → Front Written
+unfoldable pub range_at : List ℕ → Front GotRange
 range_at text = do
   piece ← cut_at 32 text
   range ← range_of piece.0
   Some (range, piece.1)
 
 -- where there is no range, `- `
-abbrev pub or_none : List Written × List ℕ → Front (List Written)
+abbrev pub or_none : List GotRange × List ℕ → Front (List GotRange)
 or_none ([], rest) = option_map (λ more. ([], more)) (behind (codes "- ") rest)
 or_none (w ∷ ws, rest) = Some (w ∷ ws, rest)
 
-unfoldable pub ranges_at : List ℕ → Front (List Written)
+unfoldable pub ranges_at : List ℕ → Front (List GotRange)
 ranges_at text = or_none (many range_at text)
 
 -- bytes were brought by mmap2 alone
@@ -105,7 +105,7 @@ abbrev pub may_bring : (call : ℕ) → (brought : List ℕ) → Bool
 may_bring call [] = true
 may_bring call (b ∷ bs) = call == numbers.mmap2
 
-abbrev pub item_from : CallHead → (sent : List ℕ) → (got : List Written) → (brought : List ℕ) → ItemValue
+abbrev pub item_from : CallHead → (sent : List ℕ) → (got : List GotRange) → (brought : List ℕ) → ItemValue
 item_from h sent got brought = record {
   entry = record { pid = h.pid; call = h.call; args = h.args; sent = sent; reply = h.reply; got = got };
   brought = brought;

@@ -1,7 +1,7 @@
 //! The reading of a call's line.
 
 ghost use Rattle.std.specs.Prelude.{◌≡◌, ◌+◌, ◌≤◌, length, map, IfOk};
-ghost use Rattle.call_log.specs.Values.{written_value};
+ghost use Rattle.call_log.specs.Values.{got_value};
 ghost use Rattle.items_text.specs.Values.{item_value};
 ghost use Rattle.items_text.specs.Pieces.{many};
 ghost use Rattle.items_text.specs.Reading.{call_numbers, head_at, range_of, range_at, ranges_at, may_bring, item_at, Finds};
@@ -123,7 +123,7 @@ fn may_bring(call: u32, brought: &[u8]) -> bool
 /// The ranges that were written, or `- `, and what is behind them.
 #[tactic(auto, unfolding(crate::specs::Reading::ranges_at))]
 fn ranges_at(alloc: Global, text: &[u8]) -> Result<Option<(Vec<Got>, &[u8])>, AllocError>
-    ensures { IfOk result (λ read. Finds (λ r. (map written_value r.0.items, r.1.now)) read (ranges_at text.now)) }
+    ensures { IfOk result (λ read. Finds (λ r. (map got_value r.0.items, r.1.now)) read (ranges_at text.now)) }
 {
     let (ranges, rest) = each_range(alloc, text)?;
     if !ranges.is_empty() {
@@ -137,7 +137,7 @@ fn ranges_at(alloc: Global, text: &[u8]) -> Result<Option<(Vec<Got>, &[u8])>, Al
 
 /// The ranges, each with the space behind it, and what is behind them.
 fn each_range(alloc: Global, text: &[u8]) -> Result<(Vec<Got>, &[u8]), AllocError>
-    ensures { IfOk result (λ r. (map written_value r.0.items, r.1.now) ≡ many range_at text.now) }
+    ensures { IfOk result (λ r. (map got_value r.0.items, r.1.now) ≡ many range_at text.now) }
 {
     let mut ranges = Vec::new(alloc);
     let mut rest = text;
@@ -151,7 +151,7 @@ fn each_range(alloc: Global, text: &[u8]) -> Result<(Vec<Got>, &[u8]), AllocErro
 /// A range with the space behind it, and what is behind that.
 #[tactic(auto, unfolding(crate::specs::Reading::range_at))]
 fn range_at(alloc: Global, text: &[u8]) -> Result<Option<(Got, &[u8])>, AllocError>
-    ensures { IfOk result (λ read. Finds (λ r. (written_value r.0, r.1.now)) read (range_at text.now)) }
+    ensures { IfOk result (λ read. Finds (λ r. (got_value r.0, r.1.now)) read (range_at text.now)) }
 {
     let Some((word, rest)) = cut_at(b' ', text) else {
         return Ok(None);
@@ -165,7 +165,7 @@ fn range_at(alloc: Global, text: &[u8]) -> Result<Option<(Got, &[u8])>, AllocErr
 /// `ADDR:HEX`
 #[tactic(auto, unfolding(crate::specs::Reading::range_of))]
 fn range_of(alloc: Global, word: &[u8]) -> Result<Option<Got>, AllocError>
-    ensures { IfOk result (λ read. Finds written_value read (range_of word.now)) }
+    ensures { IfOk result (λ read. Finds got_value read (range_of word.now)) }
 {
     let Some((addr, _)) = word_at(16, b':', word) else {
         return Ok(None);

@@ -17,13 +17,13 @@ use Rattle.mmap_rules.specs.declared.want.Want.{Want}
 use Rattle.mmap_rules.specs.declared.want.Want.TheVariants.{Anon, File}
 use Rattle.mmap_rules.specs.Want.{pages_for, map_anonymous}
 use Rattle.mmap_rules.specs.Held.{Held}
-use Rattle.mmap_rules.specs.Sides.{Mapped, sides, mapped, file_in}
+use Rattle.mmap_rules.specs.MapState.{Mapped, map_state, mapped, file_in}
 use Rattle.mmap_rules.proofs.FilePages.{length-file_pages}
+use Rattle.mmap_rules.specs.Copies.{wanted_bytes}
 use Rattle.vfork_exec.proofs.Keyed.{eqb_other, eqb_same}
 use Rattle.flat_loader.specs.Alone.{is_errno}
 use Rattle.file_calls.specs.declared.call.Call.{Call}
 use Rattle.machine_world.specs.World.{Recording}
-use Rattle.machine_world.specs.MapCalls.{first_bytes}
 use Rattle.machine_world.specs.Recordings.{is_recorded}
 use Rattle.machine_world.specs.Event.{maps_file, lists_brought}
 use Rattle.machine_world.proofs.Refused.{is_refused, maps_nothing}
@@ -62,7 +62,7 @@ not_errno n less = over n less
 
 abbrev pub lists_of : Inodes → Want → List (List ℕ)
 lists_of nodes (Anon pages) = []
-lists_of nodes (File pages first write id change) = first_bytes nodes (File pages first write id change) ∷ []
+lists_of nodes (File pages first write id change) = wanted_bytes nodes (File pages first write id change) ∷ []
 
 last_none : (x z : Bool) (l : List ℕ) → z ≡ true → (if x && not z then l ∷ [] else []) ≡ []
 last_none true true l h = refl
@@ -74,17 +74,17 @@ module _ (call : Call) (from : ℕ) (below : from < 0xfffff001) (m : Bytes) (nod
   maps_one first pages id change write asked = λ i. (asked.0 i == 222) && not (not_errno from below i) && not (asked.1 i)
 
   reads_one : (first pages id change : ℕ) (write : Bool) (len : ℕ) → len ≡ 4096 * pages →
-      unwrap_or (bytes_from (with_bytes m from (first_bytes nodes (File pages first write id change))) from len) [] ≡ first_bytes nodes (File pages first write id change)
+      unwrap_or (bytes_from (with_bytes m from (wanted_bytes nodes (File pages first write id change))) from len) [] ≡ wanted_bytes nodes (File pages first write id change)
   reads_one first pages id change write len same =
-      let bytes : List ℕ = first_bytes nodes (File pages first write id change) in
+      let bytes : List ℕ = wanted_bytes nodes (File pages first write id change) in
       let all : len ≡ length bytes = same ∙ sym (length-file_pages (bytes_of nodes id) first pages) in
       ap (λ (n : ℕ). unwrap_or (bytes_from (with_bytes m from bytes) from n) []) all
       ∙ ap (λ (o : Option (List ℕ)). unwrap_or o []) (read_back m from bytes)
 
-  pub brings_back : (want : Want) → IsAsked call want → lists_brought (noted_entry call from []) (with_bytes m from (first_bytes nodes want)) ≡ lists_of nodes want
+  pub brings_back : (want : Want) → IsAsked call want → lists_brought (noted_entry call from []) (with_bytes m from (wanted_bytes nodes want)) ≡ lists_of nodes want
   brings_back (Anon pages) asked = last_none _ (has_flag (slice_index call.args 3) map_anonymous) _ asked
   brings_back (File pages first write id change) asked =
-      let bytes : List ℕ = first_bytes nodes (File pages first write id change) in
+      let bytes : List ℕ = wanted_bytes nodes (File pages first write id change) in
       let read : ℕ → List ℕ = λ len. unwrap_or (bytes_from (with_bytes m from bytes) from len) [] in
       let len : ℕ = 4096 * pages_for (slice_index call.args 1) in
       ap (λ (b : Bool). if b then (if b then read len else []) ∷ [] else []) (maps_one first pages id change write asked)
@@ -95,30 +95,30 @@ module _ (call : Call) (from : ℕ) (below : from < 0xfffff001) (m : Bytes) (nod
 -- whether it is recorded before the mapping is made, and what is left of that
 pub record Brought (k : Kept) (space : ℕ) (kind : Kind) (want : Want) (h : Held) (result : Result ℕ MapFault) (recording : Recording) : Type 0 where
   pub brings : Bool
-  pub goes : brings ≡ (is_recorded k.recording space && is_file want && is_some (mapped (sides h k.regions k.mem) kind (bytes_of k.tree (file_in want)) want))
-  pub now : recording ≡ record (event_recorded k.recording space) { brought = k.recording.brought ++ (if brings && is_ok result then first_bytes k.tree want ∷ [] else []) }
+  pub goes : brings ≡ (is_recorded k.recording space && is_file want && is_some (mapped (map_state h k.regions k.mem) kind (bytes_of k.tree (file_in want)) want))
+  pub now : recording ≡ record (event_recorded k.recording space) { brought = k.recording.brought ++ (if brings && is_ok result then wanted_bytes k.tree want ∷ [] else []) }
 
 module _ (k : Kept) (space : ℕ) (kind : Kind) (want : Want) (h : Held) (recording : Recording) (call : Call) where
   abbrev with_lists : List (List ℕ) → Recording
   with_lists lists = record (event_recorded k.recording space) { brought = lists }
 
-  lists_where : (b : Bool) (w : Want) → (if (b && is_file w && true) && true then first_bytes k.tree w ∷ [] else []) ≡ (if b then lists_of k.tree w else [])
+  lists_where : (b : Bool) (w : Want) → (if (b && is_file w && true) && true then wanted_bytes k.tree w ∷ [] else []) ≡ (if b then lists_of k.tree w else [])
   lists_where true (Anon pages) = refl
   lists_where true (File pages first write id change) = refl
   lists_where false w = refl
 
   -- it came about
-  pub brought_there : IsAsked call want → (m : Mapped) (addr : ℕ) → mapped (sides h k.regions k.mem) kind (bytes_of k.tree (file_in want)) want ≡ Some m →
+  pub brought_there : IsAsked call want → (m : Mapped) (addr : ℕ) → mapped (map_state h k.regions k.mem) kind (bytes_of k.tree (file_in want)) want ≡ Some m →
       Brought k space kind want h (Ok addr) recording → (value from : ℕ) → value ≡ from → from < 0xfffff001 → (bytes : Bytes) →
-      recording ≡ call_recorded k.recording space (noted_entry call value []) (with_bytes bytes from (first_bytes k.tree want))
+      recording ≡ call_recorded k.recording space (noted_entry call value []) (with_bytes bytes from (wanted_bytes k.tree want))
   brought_there asked m addr is b value from same below bytes =
       let brings : b.brings ≡ (is_recorded k.recording space && is_file want && true) = b.goes ∙ ap (λ (o : Option Mapped). is_recorded k.recording space && is_file want && is_some o) is in
       b.now
-      ∙ ap (λ (t : Bool). with_lists (k.recording.brought ++ (if t && true then first_bytes k.tree want ∷ [] else []))) brings
+      ∙ ap (λ (t : Bool). with_lists (k.recording.brought ++ (if t && true then wanted_bytes k.tree want ∷ [] else []))) brings
       ∙ ap (λ (lists : List (List ℕ)). with_lists (k.recording.brought ++ lists)) (
       lists_where (is_recorded k.recording space) want
       ∙ ap (λ (lists : List (List ℕ)). if is_recorded k.recording space then lists else []) (sym (brings_back call from below bytes k.tree want asked)))
-      ∙ ap (λ (v : ℕ). call_recorded k.recording space (noted_entry call v []) (with_bytes bytes from (first_bytes k.tree want))) (sym same)
+      ∙ ap (λ (v : ℕ). call_recorded k.recording space (noted_entry call v []) (with_bytes bytes from (wanted_bytes k.tree want))) (sym same)
 
   nothing_more : (b : Bool) (l : List (List ℕ)) (lists : List (List ℕ)) → lists ++ (if b && false then l else []) ≡ lists
   nothing_more true l lists = append-nil lists
@@ -129,7 +129,7 @@ module _ (k : Kept) (space : ℕ) (kind : Kind) (want : Want) (h : Held) (record
       recording ≡ call_recorded k.recording space (noted_entry call value []) bytes
   brought_nowhere b value same bytes =
       b.now
-      ∙ ap with_lists (nothing_more b.brings (first_bytes k.tree want ∷ []) k.recording.brought)
+      ∙ ap with_lists (nothing_more b.brings (wanted_bytes k.tree want ∷ []) k.recording.brought)
       ∙ sym (recorded_plain k.recording space (noted_entry call value []) bytes (maps_nothing (noted_entry call value []) (ap is_errno same ∙ is_refused Enomem)))
 
 -- ---- how the code comes by it
@@ -160,12 +160,12 @@ brought_none r old new brings bytes result error is settles fails =
     none false = append-nil r.brought
 
 pub brought_by : (k : Kept) (space : ℕ) (kind : Kind) (want : Want) (h : Held) (result : Result ℕ MapFault) (old new recording : Recording) (brings : Bool) →
-    brings ≡ (is_recorded k.recording space && is_file want && is_some (mapped (sides h k.regions k.mem) kind (bytes_of k.tree (file_in want)) want)) →
-    old ≡ record k.recording { brought = k.recording.brought ++ (if brings then first_bytes k.tree want ∷ [] else []) } →
+    brings ≡ (is_recorded k.recording space && is_file want && is_some (mapped (map_state h k.regions k.mem) kind (bytes_of k.tree (file_in want)) want)) →
+    old ≡ record k.recording { brought = k.recording.brought ++ (if brings then wanted_bytes k.tree want ∷ [] else []) } →
     ((lists : List (List ℕ)) → (l : List ℕ) → old.brought ≡ lists ++ (if brings then l ∷ [] else []) → new ≡ record old { brought = lists ++ (if brings && is_ok result then l ∷ [] else []) }) →
     recording ≡ event_recorded new space → Brought k space kind want h result recording
 brought_by k space kind want h result old new recording brings goes is settles passes = record {
   brings = brings;
   goes = goes;
-  now = passes ∙ ap (λ (r : Recording). event_recorded r space) (settled_is k.recording old new brings (first_bytes k.tree want) result is settles);
+  now = passes ∙ ap (λ (r : Recording). event_recorded r space) (settled_is k.recording old new brings (wanted_bytes k.tree want) result is settles);
 }

@@ -17,7 +17,7 @@ use Rattle.machine_world.specs.Event as event
 use Rattle.machine_world.specs.Event.{trapped, number_of, args_of, waited, answered, exited, is_exit, cloned, exec, awake}
 use Rattle.file_calls.specs.declared.call.Call.{Call}
 use Rattle.file_calls.specs.Calls.{WaitsOn}
-use Rattle.physical_turns.specs.Physical.{Physical, After, after, no_room, nobody, carried, settled_in, killed, answered_in, waitid_in, classed_in, asked_in, answer_in, in_space, by_process, at_process, called_in, died_in, outside}
+use Rattle.physical_turns.specs.Physical.{Physical, After, after, no_room, nobody, carried, settled_in, killed, answered_in, waitid_in, classed_in, asked_in, answer_in, in_space_in, by_process_in, at_process_in, called_in, died_in, outside}
 use Rattle.physical_turns.proofs.Sub.{sent_sub}
 use Rattle.physical_turns.proofs.InMemory.{answered_begins, exited_begins, cloned_begins, waited_begins}
 use Rattle.kept_parts.specs.declared.task.Task.{Task}
@@ -240,11 +240,11 @@ module _ (headers : List (List ℕ)) (a : About) (k : Kept) (e : Entry Task) (h 
 -- ---- the whole call
 
 module _ (headers : List (List ℕ)) (a : About) (k : Kept) (pid : ℕ) (e : Entry Task) (h : Held) (runs : LivesIn k pid e h) where
-  acts_in : (act : Process → Space → After) → at_process (physical_of headers a k) pid act ≡ act (process_of e) (private_of k.mem h)
-  unfolding at_process physical_of
+  acts_in : (act : Process → Space → After) → at_process_in (physical_of headers a k) pid act ≡ act (process_of e) (private_of k.mem h)
+  unfolding at_process_in physical_of
   acts_in act =
-      ap (λ (o : Option Process). by_process (world_of a k).spaces act o) (process_there a k pid e h runs)
-      ∙ ap (λ (o : Option LiveSpace). in_space act (process_of e) o) (space_there a k pid e h runs)
+      ap (λ (o : Option Process). by_process_in (world_of a k).spaces act o) (process_there a k pid e h runs)
+      ∙ ap (λ (o : Option LiveSpace). in_space_in act (process_of e) o) (space_there a k pid e h runs)
 
   -- by what it reads of memory
   called_by : (found : Result (List ℕ) Span) → sent (number_of e.value.regs) (args_of e.value.regs) (physical k.mem) ≡ found →

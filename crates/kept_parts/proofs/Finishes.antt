@@ -1,7 +1,7 @@
 -- What is kept after a call that has its reply, by what the code did.
 use Rattle.std.proofs.Common.{◌≡◌, ℕ, false, List, [], ◌∷◌, length, Some, None, Ok, refl, sym, ap, ◌∙◌}
 use Rattle.std.specs.Prelude.{◌≤◌, ◌==◌, option_map, Option, slice_get, slice_set}
-use Rattle.call_log.specs.Notes.{Written, Note}
+use Rattle.call_log.specs.Notes.{GotRange, Note}
 use Rattle.nommu_regions.specs.declared.region.Region.{Region}
 use Rattle.mmap_rules.specs.Space.{Space, own_in, writable_in}
 use Rattle.mmap_rules.specs.Held.{Held, next_brk}
@@ -18,7 +18,7 @@ use Rattle.machine_world.specs.Rows.{row}
 use Rattle.machine_world.specs.Event.{put_got, replied, maps_file}
 use Rattle.file_calls.specs.declared.call.Call.{Call}
 use Rattle.file_calls.specs.declared.outcome.Outcome.{Outcome as Output}
-use Rattle.file_calls.specs.Calls.{IsRest, with_all, after, written_of}
+use Rattle.file_calls.specs.Calls.{IsRest, with_all, after, got_of}
 use Rattle.kept_parts.specs.declared.task.Task.{Task}
 use Rattle.kept_parts.specs.declared.effect.Effect.{Effect}
 use Rattle.kept_parts.specs.declared.effect.Effect.TheVariants.{Answer, Yield, Break}
@@ -26,9 +26,9 @@ use Rattle.kept_parts.specs.Kept.{Kept}
 use Rattle.kept_parts.specs.Regular.{Regular}
 use Rattle.kept_parts.specs.Recorded.{event_recorded, call_recorded}
 use Rattle.kept_parts.specs.Stands.{About, private_bytes, private_of, world_of, OthersSame}
-use Rattle.call_bytes.specs.Puts.{first_stray}
+use Rattle.call_bytes.specs.Puts.{stray_range}
 use Rattle.region_watch.specs.Private.{in_pages}
-use Rattle.kept_parts.specs.Calls.{LivesIn, IsCall, ask_in, reply_of, value_of, brk_of, maps_by, noted_entry, noted_call, held_as, after_reply, Changed, given, Gave, GaveIn}
+use Rattle.kept_parts.specs.Calls.{LivesIn, IsCall, ask_in, reply_of, value_of, brk_of, maps_by, noted_entry, noted_call, held_as, after_reply, Changed, output_reply, Gave, GaveIn}
 use Rattle.kept_parts.proofs.Apart.{others_keep}
 use Rattle.kept_parts.proofs.Recorded.{maps_by_none, maps_none, recorded_plain, regular_recorded}
 use Rattle.call_bytes.proofs.Puts.{part_put, part_frozen, writable_own}
@@ -70,7 +70,7 @@ module _ (a : About) (k : Kept) (e : Entry Task) (h : Held) (call : Call) (runs 
   space_stays = sym (set_kept k.spaces e.value.space (Some h) runs.home)
 
   -- a call that maps no file
-  plain_recorded : (value : ℕ) (got : List Written) (space : Space) → maps_file (noted_entry call value got) ≡ false →
+  plain_recorded : (value : ℕ) (got : List GotRange) (space : Space) → maps_file (noted_entry call value got) ≡ false →
       call_recorded k.recording e.value.space (noted_entry call value got) space.bytes ≡ event_recorded k.recording e.value.space
   plain_recorded value got space plain = recorded_plain k.recording e.value.space (noted_entry call value got) space.bytes plain
 
@@ -174,9 +174,9 @@ module _ (a : About) (k : Kept) (e : Entry Task) (h : Held) (call : Call) (runs 
     -- ---- by an output
 
     gave_after : (o : Output) (mem : List ℕ) (files : OpenFiles) (procs : Listed Task) (notes : List Note) (recording : Recording) → files ≡ after o.then call.table k.files →
-        Finishes k call.pid o.value procs → notes ≡ noted_call call o.value (written_of o) ∷ k.notes →
+        Finishes k call.pid o.value procs → notes ≡ noted_call call o.value (got_of o) ∷ k.notes →
         recording ≡ event_recorded k.recording e.value.space → (call.number == 222) ≡ false →
-        record k { mem = mem; files = files; procs = procs; notes = notes; recording = recording } ≡ after_reply k e h call (given (ask_in a k e h call) o) mem
+        record k { mem = mem; files = files; procs = procs; notes = notes; recording = recording } ≡ after_reply k e h call (output_reply (ask_in a k e h call) o) mem
     unfolding world_of
     gave_after o mem files procs notes recording follows finishes noted recorded plain = λ i. record k {
       mem = mem;
@@ -184,19 +184,19 @@ module _ (a : About) (k : Kept) (e : Entry Task) (h : Held) (call : Call) (runs 
       files = (follows ∙ ap (λ (t : ℕ). after o.then t k.files) is.table) i;
       procs = finishes e.value kept_value i;
       notes = noted i;
-      recording = (recorded ∙ sym (plain_recorded o.value (written_of o) (private_of k.mem h) (maps_none call o.value (written_of o) plain))) i;
+      recording = (recorded ∙ sym (plain_recorded o.value (got_of o) (private_of k.mem h) (maps_none call o.value (got_of o) plain))) i;
     }
 
-    module _ (o : Output) (mem : List ℕ) (puts : put_got (physical k.mem) (in_pages (length k.regions)) (written_of o) ≡ Ok (physical mem)) (files : OpenFiles) (procs : Listed Task) (notes : List Note) (recording : Recording)
-        (follows : files ≡ after o.then call.table k.files) (finishes : Finishes k call.pid o.value procs) (noted : notes ≡ noted_call call o.value (written_of o) ∷ k.notes)
+    module _ (o : Output) (mem : List ℕ) (puts : put_got (physical k.mem) (in_pages (length k.regions)) (got_of o) ≡ Ok (physical mem)) (files : OpenFiles) (procs : Listed Task) (notes : List Note) (recording : Recording)
+        (follows : files ≡ after o.then call.table k.files) (finishes : Finishes k call.pid o.value procs) (noted : notes ≡ noted_call call o.value (got_of o) ∷ k.notes)
         (recorded : recording ≡ event_recorded k.recording e.value.space) (plain : (call.number == 222) ≡ false) where
       -- into the space of its caller
-      pub gave_by : Regular k → first_stray (writable_in h.maps) (written_of o) ≡ None → Gave a k e h call o (record k { mem = mem; files = files; procs = procs; notes = notes; recording = recording })
+      pub gave_by : Regular k → stray_range (writable_in h.maps) (got_of o) ≡ None → Gave a k e h call o (record k { mem = mem; files = files; procs = procs; notes = notes; recording = recording })
       unfolding private_bytes
       gave_by regular fits = record {
-        put = part_put (own_in h.maps) (writable_in h.maps) (in_pages (length k.regions)) (writable_own h.maps) (physical mem) (written_of o) (physical k.mem) fits puts;
+        put = part_put (own_in h.maps) (writable_in h.maps) (in_pages (length k.regions)) (writable_own h.maps) (physical mem) (got_of o) (physical k.mem) fits puts;
         others = λ j x other there. others_keep k regular e.value.space h runs.home mem
-            (part_frozen (own_in h.maps) (writable_in h.maps) (in_pages (length k.regions)) (writable_own h.maps) (physical mem) (written_of o) (physical k.mem) fits puts) j x other there;
+            (part_frozen (own_in h.maps) (writable_in h.maps) (in_pages (length k.regions)) (writable_own h.maps) (physical mem) (got_of o) (physical k.mem) fits puts) j x other there;
         after = gave_after o mem files procs notes recording follows finishes noted recorded plain;
       }
 

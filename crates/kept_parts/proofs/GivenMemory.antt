@@ -6,8 +6,8 @@ use Rattle.std.proofs.lemmas.Bool.Decides.{nat_tests}
 use Rattle.byte_words.specs.ByteMap.{Bytes}
 use Rattle.rv32im_step.specs.declared.access.Access.{Access}
 use Rattle.call_log.specs.declared.note.Got.{Got}
-use Rattle.call_log.specs.Values.{written_value}
-use Rattle.call_log.specs.Notes.{Written, Note, call_note, weight_of}
+use Rattle.call_log.specs.Values.{got_value}
+use Rattle.call_log.specs.Notes.{GotRange, Note, call_note, weight_of}
 use Rattle.call_log.specs.Sent.{Span}
 use Rattle.fd_tables.specs.Files.{OpenFiles}
 use Rattle.mmap_rules.specs.declared.mapping.Mapping.{Mapping}
@@ -21,7 +21,7 @@ use Rattle.machine_world.specs.Asks.{Ask, Reply, replies}
 use Rattle.machine_world.specs.Event.{Trace, Outcome, went, full, with_space, entry_of, item_of, replied, put_got, maps_file, replied_world, room_for, served, answered, trapped, at_process}
 use Rattle.file_calls.specs.declared.call.Call.{Call}
 use Rattle.file_calls.specs.declared.outcome.Outcome.{Outcome as Output}
-use Rattle.file_calls.specs.Calls.{after as after_files, written_of}
+use Rattle.file_calls.specs.Calls.{after as after_files, got_of}
 use Rattle.physical_turns.specs.Physical.{After, after, no_room, nobody, or_below, over, showing, bytes_in, is_free_at, laid_behind, carried, outside, killed, put_in, answered_in, has_stray}
 use Rattle.physical_turns.proofs.InMemory.{trapped_begins}
 use Rattle.kept_parts.specs.declared.task.Task.{Task}
@@ -33,13 +33,13 @@ use Rattle.kept_parts.specs.Kept.{Kept}
 use Rattle.kept_parts.specs.Regular.{Regular}
 use Rattle.kept_parts.specs.Copies.{CopiesHold}
 use Rattle.kept_parts.specs.Stands.{About, later, private_bytes, private_of, live_spaces, process_of, world_of}
-use Rattle.call_bytes.specs.Puts.{first_stray, access_at}
+use Rattle.call_bytes.specs.Puts.{stray_range, access_at}
 use Rattle.kept_parts.specs.Reach.{writable}
 use Rattle.region_watch.specs.Private.{in_pages}
 use Rattle.kept_parts.specs.InMemory.{physical_of, GoesIn, ServesIn, DiedIn, InReach}
 use Rattle.kept_parts.specs.Serves.{Answered, Serves, Died}
 use Rattle.kept_parts.specs.Recorded.{call_recorded, room_beside}
-use Rattle.kept_parts.specs.Calls.{LivesIn, IsCall, ask_in, given, noted_entry, noted_call, after_reply, GaveIn}
+use Rattle.kept_parts.specs.Calls.{LivesIn, IsCall, ask_in, output_reply, noted_entry, noted_call, after_reply, GaveIn}
 use Rattle.call_bytes.proofs.Places.{any_at}
 use Rattle.kept_parts.proofs.Apart.{is_used}
 use Rattle.call_bytes.proofs.Puts.{put_all, put_strays, none_strays, stray_wider, writable_own, part_frozen}
@@ -101,25 +101,25 @@ module _ (headers : List (List ℕ)) (a : About) (k : Kept) (e : Entry Task) (h 
   ask = ask_in a k e h call
 
   abbrev gives : Reply
-  gives = given ask o
+  gives = output_reply ask o
 
   abbrev files_then : OpenFiles
   files_then = after_files o.then e.value.table k.files
 
-  entry_is : noted_entry call o.value (written_of o) ≡ entry_of ask o.value (written_of o)
-  entry_is = λ i. record { pid = is.pid i; call = is.number i; args = is.args i; sent = call.sent.items; reply = o.value; got = written_of o }
+  entry_is : noted_entry call o.value (got_of o) ≡ entry_of ask o.value (got_of o)
+  entry_is = λ i. record { pid = is.pid i; call = is.number i; args = is.args i; sent = call.sent.items; reply = o.value; got = got_of o }
 
-  given_room : (call.number == 222) ≡ false → (b : Bool) → room_beside k (weight_of call.sent.items (written_of o)) ≡ b → room_for (world_of a k) ask gives ≡ b
-  given_room plain b room = room_plain a k e h call gives b (ap maps_file (sym entry_is) ∙ maps_none call o.value (written_of o) plain) room
+  given_room : (call.number == 222) ≡ false → (b : Bool) → room_beside k (weight_of call.sent.items (got_of o)) ≡ b → room_for (world_of a k) ask gives ≡ b
+  given_room plain b room = room_plain a k e h call gives b (ap maps_file (sym entry_is) ∙ maps_none call o.value (got_of o) plain) room
 
   -- by the bytes that can be written
-  put_is : (found : Result Bytes Span) → put_got (physical k.mem) (in_pages (length k.regions)) (written_of o) ≡ found →
+  put_is : (found : Result Bytes Span) → put_got (physical k.mem) (in_pages (length k.regions)) (got_of o) ≡ found →
       answered_in (physical_of headers a k) ask (replies gives) ≡ put_in (physical_of headers a k) ask gives found
   unfolding physical_of world_of
   put_is found = ap (put_in (physical_of headers a k) ask gives)
 
   abbrev trace : Trace
-  trace = record { space = e.value.space; events = 1; items = item_of (entry_of ask o.value (written_of o)) (private_bytes k.mem h) ∷ []; begins = None; over = false }
+  trace = record { space = e.value.space; events = 1; items = item_of (entry_of ask o.value (got_of o)) (private_bytes k.mem h) ∷ []; begins = None; over = false }
 
   abbrev now : World
   now = replied_world (record (world_of a k) { rest = gives.rest }) ask gives (private_bytes k.mem h)
@@ -140,10 +140,10 @@ module _ (headers : List (List ℕ)) (a : About) (k : Kept) (e : Entry Task) (h 
         events = a.events + 1;
         recording = call_recorded k.recording e.value.space (sym entry_is i) (private_bytes k.mem h);
       })
-      ∙ ap (λ (w : World). record w { recording = call_recorded k.recording e.value.space (noted_entry call o.value (written_of o)) (private_bytes k.mem h) }) (sym (moved_world k call.pid e h runs (replied e.value.regs o.value) h k.mem (λ j x other there. refl) k.regions refl k.starts a 1 (noted_call call o.value (written_of o) ∷ k.notes) k.tree files_then k.console))
+      ∙ ap (λ (w : World). record w { recording = call_recorded k.recording e.value.space (noted_entry call o.value (got_of o)) (private_bytes k.mem h) }) (sym (moved_world k call.pid e h runs (replied e.value.regs o.value) h k.mem (λ j x other there. refl) k.regions refl k.starts a 1 (noted_call call o.value (got_of o) ∷ k.notes) k.tree files_then k.console))
 
   -- it has its bytes
-  pub given_serves_in : Regular k → (new : Kept) → GaveIn a k e h call o new → (call.number == 222) ≡ false → room_beside k (weight_of call.sent.items (written_of o)) ≡ true → Lives new.procs call.pid →
+  pub given_serves_in : Regular k → (new : Kept) → GaveIn a k e h call o new → (call.number == 222) ≡ false → room_beside k (weight_of call.sent.items (got_of o)) ≡ true → Lives new.procs call.pid →
       GoesIn headers a (answered_in (physical_of headers a k) ask (replies gives)) k new call.pid Replied
   unfolding physical_of
   given_serves_in regular new gave plain room lives =
@@ -161,33 +161,33 @@ module _ (headers : List (List ℕ)) (a : About) (k : Kept) (e : Entry Task) (h 
       goes = put_is (Ok (physical new.mem)) gave.put ∙ carried_is
 
   -- the log has no room
-  pub given_full_in : first_stray (in_pages (length k.regions)) (written_of o) ≡ None → room_beside k (weight_of call.sent.items (written_of o)) ≡ false →
+  pub given_full_in : stray_range (in_pages (length k.regions)) (got_of o) ≡ None → room_beside k (weight_of call.sent.items (got_of o)) ≡ false →
       GoesIn headers a (answered_in (physical_of headers a k) ask (replies gives)) k k call.pid LogFull
   unfolding physical_of
   given_full_in fits room =
-      let all = put_all (physical k.mem) (in_pages (length k.regions)) (written_of o) fits in
+      let all = put_all (physical k.mem) (in_pages (length k.regions)) (got_of o) fits in
       subst (λ (x : After). GoesIn headers a x k k call.pid LogFull) (sym (put_is (Ok all.0) all.1 ∙ filled all.0)) (refl, refl, tt)
     where
       filled : (m : Bytes) → put_in (physical_of headers a k) ask gives (Ok m) ≡ no_room (physical_of headers a k)
       filled m = ap (carried (physical_of headers a k) m) (served_full (room_never a k e h call gives room))
 
   -- a range lies outside memory
-  pub given_strays_in : (access : Access) → Some access ≡ option_map (access_at e.value.regs.pc) (first_stray (in_pages (length k.regions)) (written_of o)) →
+  pub given_strays_in : (access : Access) → Some access ≡ option_map (access_at e.value.regs.pc) (stray_range (in_pages (length k.regions)) (got_of o)) →
       killed (physical_of headers a k) (process_of e) outside ≡ answered_in (physical_of headers a k) ask (replies gives)
-  given_strays_in access found = by_span (first_stray (in_pages (length k.regions)) (written_of o)) refl found
+  given_strays_in access found = by_span (stray_range (in_pages (length k.regions)) (got_of o)) refl found
     where
-      by_span : (span : Option Span) → first_stray (in_pages (length k.regions)) (written_of o) ≡ span → Some access ≡ option_map (access_at e.value.regs.pc) span →
+      by_span : (span : Option Span) → stray_range (in_pages (length k.regions)) (got_of o) ≡ span → Some access ≡ option_map (access_at e.value.regs.pc) span →
           killed (physical_of headers a k) (process_of e) outside ≡ answered_in (physical_of headers a k) ask (replies gives)
       by_span None there is = absurd cc
-      by_span (Some span) there is = sym (put_is (Err span) (put_strays (physical k.mem) (in_pages (length k.regions)) (written_of o) span there))
+      by_span (Some span) there is = sym (put_is (Err span) (put_strays (physical k.mem) (in_pages (length k.regions)) (got_of o) span there))
 
 -- or it strays, and nothing is done
 pub strays_serve : (a : About) (k : Kept) (e : Entry Task) (h : Held) (call : Call) → LivesIn k call.pid e h → IsCall e call → (o : Output) (access : Access) →
-    Some access ≡ option_map (access_at e.value.regs.pc) (first_stray (writable_in h.maps) (written_of o)) → (new : Kept) (result : Result Served AllocError) →
-    result ≡ Ok (Stray access) → new ≡ k → Serves a (answered (world_of a k) (ask_in a k e h call) (replies (given (ask_in a k e h call) o))) k new call.pid result
+    Some access ≡ option_map (access_at e.value.regs.pc) (stray_range (writable_in h.maps) (got_of o)) → (new : Kept) (result : Result Served AllocError) →
+    result ≡ Ok (Stray access) → new ≡ k → Serves a (answered (world_of a k) (ask_in a k e h call) (replies (output_reply (ask_in a k e h call) o))) k new call.pid result
 strays_serve a k e h call runs is o access found new result strayed same =
-    subst (λ (r : Result Served AllocError). Serves a (answered (world_of a k) (ask_in a k e h call) (replies (given (ask_in a k e h call) o))) k new call.pid r) (sym strayed)
-    (subst (λ (x : Kept). Answered a (answered (world_of a k) (ask_in a k e h call) (replies (given (ask_in a k e h call) o))) k x call.pid (Stray access)) (sym same) (output_strays a k e h call runs is o access found))
+    subst (λ (r : Result Served AllocError). Serves a (answered (world_of a k) (ask_in a k e h call) (replies (output_reply (ask_in a k e h call) o))) k new call.pid r) (sym strayed)
+    (subst (λ (x : Kept). Answered a (answered (world_of a k) (ask_in a k e h call) (replies (output_reply (ask_in a k e h call) o))) k x call.pid (Stray access)) (sym same) (output_strays a k e h call runs is o access found))
 
 -- ---- an end
 
@@ -243,11 +243,11 @@ module _ (k : Kept) (regular : Regular k) (i : ℕ) (h : Held) (there : slice_ge
       grind (arith, nat_tests, above, below)
 
   -- ranges of it too
-  own_inside : (gots : List Written) → first_stray (writable_in h.maps) gots ≡ None → first_stray (in_pages (length k.regions)) gots ≡ None
+  own_inside : (gots : List GotRange) → stray_range (writable_in h.maps) gots ≡ None → stray_range (in_pages (length k.regions)) gots ≡ None
   own_inside = stray_wider (writable_in h.maps) (in_pages (length k.regions)) writable_inside
 
   -- and of either reach
-  pub reach_inside : (reach : Reach) (gots : List Written) → first_stray (writable reach (length k.regions) h) gots ≡ None → first_stray (in_pages (length k.regions)) gots ≡ None
+  pub reach_inside : (reach : Reach) (gots : List GotRange) → stray_range (writable reach (length k.regions) h) gots ≡ None → stray_range (in_pages (length k.regions)) gots ≡ None
   reach_inside Own gots fits = own_inside gots fits
   reach_inside Whole gots fits = fits
 
@@ -261,8 +261,8 @@ module _ (k : Kept) (regular : Regular k) (i : ℕ) (h : Held) (there : slice_ge
     uses = copies.uses;
   }
 
-  pub copies_given : CopiesHold k.regions k.mem k.tree k.notes → (mem : List ℕ) → length mem ≡ length k.mem → (gots : List Written) →
-      put_got (physical k.mem) (in_pages (length k.regions)) gots ≡ Ok (physical mem) → (has_stray k.notes ≡ false → first_stray (writable_in h.maps) gots ≡ None) →
+  pub copies_given : CopiesHold k.regions k.mem k.tree k.notes → (mem : List ℕ) → length mem ≡ length k.mem → (gots : List GotRange) →
+      put_got (physical k.mem) (in_pages (length k.regions)) gots ≡ Ok (physical mem) → (has_stray k.notes ≡ false → stray_range (writable_in h.maps) gots ≡ None) →
       CopiesHold k.regions mem k.tree k.notes
   copies_given copies mem len gots puts fits = copies_if mem copies (λ unstrayed.
       copies_frozen k regular copies i h there mem len
@@ -273,22 +273,22 @@ module _ (k : Kept) (regular : Regular k) (i : ℕ) (h : Held) (there : slice_ge
 module _ (o : Output) (xs : List Got) (seen : xs ≡ o.got.items) where
   -- the first range beyond reach
   module _ (reach : Reach) (k : Kept) (pid : ℕ) (found : Option Access)
-      (looks : (e : Entry Task) → (h : Held) → LivesIn k pid e h → found ≡ option_map (access_at e.value.regs.pc) (first_stray (writable reach (length k.regions) h) (map written_value xs)))
+      (looks : (e : Entry Task) → (h : Held) → LivesIn k pid e h → found ≡ option_map (access_at e.value.regs.pc) (stray_range (writable reach (length k.regions) h) (map got_value xs)))
       (e : Entry Task) (h : Held) (runs : LivesIn k pid e h) where
-    pub found_by : found ≡ option_map (access_at e.value.regs.pc) (first_stray (writable reach (length k.regions) h) (written_of o))
-    found_by = looks e h runs ∙ ap (λ (ys : List Got). option_map (access_at e.value.regs.pc) (first_stray (writable reach (length k.regions) h) (map written_value ys))) seen
+    pub found_by : found ≡ option_map (access_at e.value.regs.pc) (stray_range (writable reach (length k.regions) h) (got_of o))
+    found_by = looks e h runs ∙ ap (λ (ys : List Got). option_map (access_at e.value.regs.pc) (stray_range (writable reach (length k.regions) h) (map got_value ys))) seen
 
-    pub none_beyond : found ≡ None → first_stray (writable reach (length k.regions) h) (written_of o) ≡ None
+    pub none_beyond : found ≡ None → stray_range (writable reach (length k.regions) h) (got_of o) ≡ None
     none_beyond none = none_strays e.value.regs.pc _ _ found_by none
 
   -- whether the log has room
-  pub room_by : (inside k : Kept) → inside ≡ k → (bytes : List ℕ) (found b : Bool) → found ≡ room_beside inside (weight_of bytes (map written_value xs)) → found ≡ b →
-      room_beside k (weight_of bytes (written_of o)) ≡ b
+  pub room_by : (inside k : Kept) → inside ≡ k → (bytes : List ℕ) (found b : Bool) → found ≡ room_beside inside (weight_of bytes (map got_value xs)) → found ≡ b →
+      room_beside k (weight_of bytes (got_of o)) ≡ b
   room_by inside k same bytes found b asked is =
-      room_is inside k same (weight_of bytes (written_of o)) found b (asked ∙ ap (λ (ys : List Got). room_beside inside (weight_of bytes (map written_value ys))) seen) is
+      room_is inside k same (weight_of bytes (got_of o)) found b (asked ∙ ap (λ (ys : List Got). room_beside inside (weight_of bytes (map got_value ys))) seen) is
 
 -- where all of memory is in reach a stray access was noted, else what is in reach is the caller's own
-pub fits_unstrayed : (reach : Reach) (notes : List Note) (pages : ℕ) (h : Held) (gots : List Written) → (reach ≡ Whole → has_stray notes ≡ true) →
-    first_stray (writable reach pages h) gots ≡ None → has_stray notes ≡ false → first_stray (writable_in h.maps) gots ≡ None
+pub fits_unstrayed : (reach : Reach) (notes : List Note) (pages : ℕ) (h : Held) (gots : List GotRange) → (reach ≡ Whole → has_stray notes ≡ true) →
+    stray_range (writable reach pages h) gots ≡ None → has_stray notes ≡ false → stray_range (writable_in h.maps) gots ≡ None
 fits_unstrayed Own notes pages h gots strayed fits unstrayed = fits
 fits_unstrayed Whole notes pages h gots strayed fits unstrayed = absurd (let e = sym unstrayed ∙ strayed refl in cc)

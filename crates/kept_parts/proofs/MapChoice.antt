@@ -13,8 +13,9 @@ use Rattle.nommu_regions.specs.Regions.{copy_covers, covers, copy_of, free_of}
 use Rattle.mmap_rules.specs.declared.mapping.Mapping.{Mapping}
 use Rattle.mmap_rules.specs.declared.want.Want.{Want}
 use Rattle.mmap_rules.proofs.Hits.{none_passes}
+use Rattle.mmap_rules.specs.Copies.{pages_of}
 use Rattle.machine_world.specs.Free.{free_runs_in}
-use Rattle.machine_world.specs.MapCalls.{all_maps, lowest, has_pages, pages_of, own_run, in_copy, in_free_run, or_own}
+use Rattle.machine_world.specs.MapCalls.{all_maps, lowest, has_pages, own_run, in_copy, in_free_run, or_own}
 use Rattle.kept_parts.specs.Kept.{Kept}
 use Rattle.kept_parts.specs.Regular.{Regular}
 use Rattle.kept_parts.specs.Stands.{About, live_from, world_of}

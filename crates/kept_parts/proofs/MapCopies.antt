@@ -11,7 +11,7 @@ use Rattle.mmap_rules.specs.declared.want.Want.TheVariants.{File}
 use Rattle.mmap_rules.specs.Held.{Held}
 use Rattle.mmap_rules.specs.Want.{AsksPages}
 use Rattle.mmap_rules.specs.Copies.{IsKnown}
-use Rattle.mmap_rules.specs.Sides.{sides, Mapped, Maps, mapped, file_in}
+use Rattle.mmap_rules.specs.MapState.{map_state, Mapped, Maps, mapped, file_in}
 use Rattle.mmap_rules.proofs.Change.{Copied, FreshRun, OneMore, change}
 use Rattle.mmap_rules.proofs.CopiesHold.{all_hold}
 use Rattle.mmap_rules.proofs.NamesMore.{used}
@@ -56,7 +56,7 @@ made_known nodes content v want (inr copied) known = copy_known nodes content v 
 
 module _ (k : Kept) (copies : CopiesHold k.regions k.mem k.tree k.notes) (h : Held) (want : Want)
     (known : IsKnown k.tree want) (m : Mapped) (notes : List Note) (later : kept_calls k.notes + 1 ≤ kept_calls notes) where
-  fresh_known : FreshRun (sides h k.regions k.mem) (bytes_of_file k.tree (file_in want)) want m → (id : ℕ) (r : Region) → slice_get m.sides.regions id ≡ Some r → 0 < r.uses →
+  fresh_known : FreshRun (map_state h k.regions k.mem) (bytes_of_file k.tree (file_in want)) want m → (id : ℕ) (r : Region) → slice_get m.map_state.regions id ≡ Some r → 0 < r.uses →
       KnowsSource k.tree r.source
   fresh_known run =
       let v : Region = record { first = run.first; pages = run.count; source = run.source; uses = 1 } in
@@ -65,7 +65,7 @@ module _ (k : Kept) (copies : CopiesHold k.regions k.mem k.tree k.notes) (h : He
         | inr other ↦ copies.known id r other.1 live
       ])
 
-  fresh_uses : FreshRun (sides h k.regions k.mem) (bytes_of_file k.tree (file_in want)) want m → (id : ℕ) (r : Region) → slice_get m.sides.regions id ≡ Some r →
+  fresh_uses : FreshRun (map_state h k.regions k.mem) (bytes_of_file k.tree (file_in want)) want m → (id : ℕ) (r : Region) → slice_get m.map_state.regions id ≡ Some r →
       r.uses ≤ 1 + kept_calls notes
   fresh_uses run =
       let v : Region = record { first = run.first; pages = run.count; source = run.source; uses = 1 } in
@@ -74,14 +74,14 @@ module _ (k : Kept) (copies : CopiesHold k.regions k.mem k.tree k.notes) (h : He
         | inr other ↦ (let old = copies.uses id r other.1 in omega (arith, old, later))
       ])
 
-  more_known : OneMore (sides h k.regions k.mem) want m → (id : ℕ) (r : Region) → slice_get m.sides.regions id ≡ Some r → 0 < r.uses → KnowsSource k.tree r.source
+  more_known : OneMore (map_state h k.regions k.mem) want m → (id : ℕ) (r : Region) → slice_get m.map_state.regions id ≡ Some r → 0 < r.uses → KnowsSource k.tree r.source
   more_known one =
       rw one.regions (λ id r there live. elim (after_set k.regions one.region.first id (used one.region) r there) [
         | inl here ↦ subst (λ (x : Region). KnowsSource k.tree x.source) (sym here.1) (copies.known one.region.first one.region one.there one.live)
         | inr other ↦ copies.known id r other.1 live
       ])
 
-  more_uses : OneMore (sides h k.regions k.mem) want m → (id : ℕ) (r : Region) → slice_get m.sides.regions id ≡ Some r → r.uses ≤ 1 + kept_calls notes
+  more_uses : OneMore (map_state h k.regions k.mem) want m → (id : ℕ) (r : Region) → slice_get m.map_state.regions id ≡ Some r → r.uses ≤ 1 + kept_calls notes
   more_uses one =
       rw one.regions (λ id r there. elim (after_set k.regions one.region.first id (used one.region) r there) [
         | inl here ↦
@@ -93,11 +93,11 @@ module _ (k : Kept) (copies : CopiesHold k.regions k.mem k.tree k.notes) (h : He
 
 pub map_copies : (k : Kept) (regular : Regular k) (copies : CopiesHold k.regions k.mem k.tree k.notes) (number : ℕ) (h : Held)
     (home : slice_get k.spaces number ≡ Some (Some h)) (kind : Kind) (want : Want) (asks : AsksPages want) (known : IsKnown k.tree want) (m : Mapped)
-    → mapped (sides h k.regions k.mem) kind (bytes_of_file k.tree (file_in want)) want ≡ Some m
-    → (notes : List Note) → kept_calls k.notes + 1 ≤ kept_calls notes → (has_stray notes ≡ false → has_stray k.notes ≡ false) → CopiesHold m.sides.regions m.sides.memory k.tree notes
+    → mapped (map_state h k.regions k.mem) kind (bytes_of_file k.tree (file_in want)) want ≡ Some m
+    → (notes : List Note) → kept_calls k.notes + 1 ≤ kept_calls notes → (has_stray notes ≡ false → has_stray k.notes ≡ false) → CopiesHold m.map_state.regions m.map_state.memory k.tree notes
 map_copies k regular copies number h home kind want asks known m is notes later strays = record {
   hold = λ unstrayed.
-      all_hold (sides h k.regions k.mem) m.sides kind k.tree want (Ok m.addr) asks regular.regions regular.memory (copies.hold (strays unstrayed)) maps;
+      all_hold (map_state h k.regions k.mem) m.map_state kind k.tree want (Ok m.addr) asks regular.regions regular.memory (copies.hold (strays unstrayed)) maps;
   known = elim way [
     | inl run ↦ fresh_known k copies h want known m notes later run
     | inr one ↦ more_known k copies h want known m notes later one
@@ -109,8 +109,8 @@ map_copies k regular copies number h home kind want asks known m is notes later 
   ];
 }
   where
-    maps : Maps (mapped (sides h k.regions k.mem) kind (bytes_of_file k.tree (file_in want)) want) (sides h k.regions k.mem) m.sides (Ok m.addr)
-    maps = subst (λ (o : Option Mapped). Maps o (sides h k.regions k.mem) m.sides (Ok m.addr)) (sym is) (refl, refl)
+    maps : Maps (mapped (map_state h k.regions k.mem) kind (bytes_of_file k.tree (file_in want)) want) (map_state h k.regions k.mem) m.map_state (Ok m.addr)
+    maps = subst (λ (o : Option Mapped). Maps o (map_state h k.regions k.mem) m.map_state (Ok m.addr)) (sym is) (refl, refl)
 
-    way : FreshRun (sides h k.regions k.mem) (bytes_of_file k.tree (file_in want)) want m ⊎ OneMore (sides h k.regions k.mem) want m
-    way = change (sides h k.regions k.mem) kind (bytes_of_file k.tree (file_in want)) want m asks regular.regions is
+    way : FreshRun (map_state h k.regions k.mem) (bytes_of_file k.tree (file_in want)) want m ⊎ OneMore (map_state h k.regions k.mem) want m
+    way = change (map_state h k.regions k.mem) kind (bytes_of_file k.tree (file_in want)) want m asks regular.regions is

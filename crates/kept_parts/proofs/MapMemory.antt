@@ -21,11 +21,11 @@ use Rattle.mmap_rules.specs.declared.want.Want.TheVariants.{Anon, File}
 use Rattle.mmap_rules.specs.declared.maps.MapFault.{MapFault}
 use Rattle.mmap_rules.specs.declared.maps.MapFault.TheVariants as fault
 use Rattle.mmap_rules.specs.Want.{AsksPages}
-use Rattle.mmap_rules.specs.Copies.{IsKnown}
+use Rattle.mmap_rules.specs.Copies.{IsKnown, wanted_bytes}
 use Rattle.mmap_rules.specs.Space.{Space, memory_base, own_in}
 use Rattle.mmap_rules.specs.Held.{Held, page_address}
 use Rattle.mmap_rules.specs.Mappings.{run_mapping, part_mapping, copied_from}
-use Rattle.mmap_rules.specs.Sides.{Sides, sides, Mapped, in_fresh_run, in_copy_or_new, mapped, file_in, Maps}
+use Rattle.mmap_rules.specs.MapState.{MapState, map_state, Mapped, in_fresh_run, in_copy_or_new, mapped, file_in, Maps}
 use Rattle.mmap_rules.proofs.Change.{covered}
 use Rattle.mmap_rules.proofs.FilePages.{length-file_pages}
 use Rattle.mmap_rules.proofs.Fresh.{fresh_free}
@@ -40,7 +40,7 @@ use Rattle.file_calls.specs.declared.call.Call.{Call}
 use Rattle.file_calls.specs.Calls.{with_all}
 use Rattle.machine_world.specs.World.{LiveSpace, Recording, World, id_of}
 use Rattle.machine_world.specs.Asks.{Ask, Reply, Row, leaves}
-use Rattle.machine_world.specs.MapCalls.{or_own, with_mapping, first_bytes, maps}
+use Rattle.machine_world.specs.MapCalls.{or_own, with_mapping, maps}
 use Rattle.machine_world.specs.MapCalls.{mapped as mapped_row}
 use Rattle.machine_world.specs.Event.{Trace, with_space, entry_of, item_of, replied, replied_world, room_for, served, answered}
 use Rattle.physical_turns.specs.Physical.{Physical, After, after, or_below, shown_space, showing, bytes_in, is_free_at, laid_behind, behind, carried}
@@ -201,11 +201,11 @@ pub record Chosen (a : About) (k : Kept) (number : ℕ) (h : Held) (want : Want)
   pub mapping : Mapping
   pub chosen : o ≡ Some mapping
   pub addr : m.addr ≡ mapping.range.from
-  pub held : m.sides.held ≡ record h { maps = h.maps ++ mapping ∷ [] }
-  pub others : OthersSame k number m.sides.memory
-  pub pages : length m.sides.regions ≡ length k.regions
+  pub held : m.map_state.held ≡ record h { maps = h.maps ++ mapping ∷ [] }
+  pub others : OthersSame k number m.map_state.memory
+  pub pages : length m.map_state.regions ≡ length k.regions
   pub below : mapping.range.from < 0xfffff001
-  pub brings : Brings a k (with_mapping (private_of k.mem h) mapping (first_bytes k.tree want)) m.sides.memory
+  pub brings : Brings a k (with_mapping (private_of k.mem h) mapping (wanted_bytes k.tree want)) m.map_state.memory
 
 module _ (a : About) (k : Kept) (regular : Regular k) (number : ℕ) (h : Held) (home : slice_get k.spaces number ≡ Some (Some h)) where
   -- bytes laid over memory at free addresses
@@ -226,19 +226,19 @@ module _ (a : About) (k : Kept) (regular : Regular k) (number : ℕ) (h : Held) 
   }
 
   -- a run of its own
-  module _ (want : Want) (count : ℕ) (writes anonymous : Bool) (source : Source) (some : 0 < count) (len : length (first_bytes k.tree want) ≡ 4096 * count)
+  module _ (want : Want) (count : ℕ) (writes anonymous : Bool) (source : Source) (some : 0 < count) (len : length (wanted_bytes k.tree want) ≡ 4096 * count)
       (o : Option Mapping) (own : o ≡ option_map (λ page. run_mapping page count writes anonymous source) (free_page a k count)) where
     new_chosen : (page : ℕ) → AreFree k.regions page count → free_page a k count ≡ Some page → Chosen a k number h want o (record {
       addr = page_address page;
-      sides = record {
+      map_state = record {
         held = record h { maps = h.maps ++ run_mapping page count writes anonymous source ∷ [] };
         regions = slice_set k.regions page (record { first = page; pages = count; source = source; uses = 1 });
-        memory = laid k.mem (4096 * page) (first_bytes k.tree want);
+        memory = laid k.mem (4096 * page) (wanted_bytes k.tree want);
       };
     })
     new_chosen page free there =
-        let bytes : List ℕ = first_bytes k.tree want in
-        let fits : 4096 * page + length (first_bytes k.tree want) ≤ length k.mem = omega (arith, len, free.inside, regular.memory) in
+        let bytes : List ℕ = wanted_bytes k.tree want in
+        let fits : 4096 * page + length (wanted_bytes k.tree want) ≤ length k.mem = omega (arith, len, free.inside, regular.memory) in
         let now : (at : ℕ) → physical (laid k.mem (4096 * page) bytes) at ≡ with_bytes (physical k.mem) (page_address page) bytes at =
         λ at. ap (λ (f : Bytes). f at) (byte_of-laid memory_base k.mem (4096 * page) bytes fits) in
         record {
@@ -255,7 +255,7 @@ module _ (a : About) (k : Kept) (regular : Regular k) (number : ℕ) (h : Held) 
               ∙ with_beside (physical k.mem) (page_address page) bytes at (subst (λ (n : ℕ). Beside (page_address page) n at) (sym len) (beside_run k regular at a page count free is))));
         }
 
-    fresh_chosen : (m : Mapped) → in_fresh_run (sides h k.regions k.mem) a.kind count writes anonymous source (first_bytes k.tree want) ≡ Some m →
+    fresh_chosen : (m : Mapped) → in_fresh_run (map_state h k.regions k.mem) a.kind count writes anonymous source (wanted_bytes k.tree want) ≡ Some m →
         Chosen a k number h want o m
     fresh_chosen m is = at (free_page a k count) refl
       where
@@ -287,7 +287,7 @@ module _ (a : About) (k : Kept) (regular : Regular k) (number : ℕ) (h : Held) 
     shared_chosen : (copy : ℕ) (r : Region) → copy_of k.regions id change first pages ≡ Some copy → slice_get k.regions copy ≡ Some r → covers id change first pages r ≡ true →
         Chosen a k number h (File pages first false id change) (chosen a k (File pages first false id change)) (record {
           addr = page_address (r.first + (first - copied_from r.source));
-          sides = record {
+          map_state = record {
             held = record h { maps = h.maps ++ part_mapping r.first r.pages r.source (first - copied_from r.source) pages ∷ [] };
             regions = with_uses k.regions r.first (λ uses. uses + 1);
             memory = k.mem;
@@ -301,7 +301,7 @@ module _ (a : About) (k : Kept) (regular : Regular k) (number : ℕ) (h : Held) 
         let inside = regular.regions.inside copy r there live in
         let skip : ℕ = first - copied_from r.source in
         let fits : (first - copied_from r.source) + pages ≤ r.pages = omega (arith, start, c.from, c.to) in
-        let bytes : List ℕ = first_bytes k.tree wanted in
+        let bytes : List ℕ = wanted_bytes k.tree wanted in
         let mapping : Mapping = part_mapping r.first r.pages r.source (first - copied_from r.source) pages in
         let len : length bytes ≡ 4096 * pages = length-file_pages (bytes_of k.tree id) first pages in
         record {
@@ -321,7 +321,7 @@ module _ (a : About) (k : Kept) (regular : Regular k) (number : ℕ) (h : Held) 
         }
 
     copy_chosen : (o : Option ℕ) → copy_of k.regions id change first pages ≡ o → (m : Mapped) →
-        in_copy_or_new (sides h k.regions k.mem) a.kind (bytes_of k.tree id) pages first id change o ≡ Some m → Chosen a k number h (File pages first false id change) (chosen a k (File pages first false id change)) m
+        in_copy_or_new (map_state h k.regions k.mem) a.kind (bytes_of k.tree id) pages first id change o ≡ Some m → Chosen a k number h (File pages first false id change) (chosen a k (File pages first false id change)) m
     copy_chosen None none m is =
         fresh_chosen (File pages first false id change) pages false false (Copy id change first) asks (length-file_pages (bytes_of k.tree id) first pages)
         (chosen a k (File pages first false id change)) (none_there a k regular number h pages first id change asks known none) m is
@@ -331,7 +331,7 @@ module _ (a : About) (k : Kept) (regular : Regular k) (number : ℕ) (h : Held) 
         subst (Chosen a k number h (File pages first false id change) (chosen a k (File pages first false id change)))
         (same_Some _ _ (rw live.there at is)) (shared_chosen copy live.region found live.there has)
 
-  pub map_chosen : (want : Want) → AsksPages want → IsKnown k.tree want → (m : Mapped) → mapped (sides h k.regions k.mem) a.kind (bytes_of k.tree (file_in want)) want ≡ Some m →
+  pub map_chosen : (want : Want) → AsksPages want → IsKnown k.tree want → (m : Mapped) → mapped (map_state h k.regions k.mem) a.kind (bytes_of k.tree (file_in want)) want ≡ Some m →
       Chosen a k number h want (chosen a k want) m
   unfolding mapped
   map_chosen (Anon pages) asks known m is =
@@ -357,22 +357,22 @@ module _ (headers : List (List ℕ)) (a : About) (k : Kept) (e : Entry Task) (h 
       ≡ after (physical_of headers (later 1 a) (record k { mem = mem; regions = rs; spaces = spaces; procs = procs; notes = notes; recording = recording })) false
   unfolding world_of private_bytes
   memory_mapped regular want asks known asked mem result left says brought room =
-      by_mapped (mapped (sides h k.regions k.mem) a.kind (bytes_of k.tree (file_in want)) want) refl result left.maps says brought
+      by_mapped (mapped (map_state h k.regions k.mem) a.kind (bytes_of k.tree (file_in want)) want) refl result left.maps says brought
     where
-      by_mapped : (o : Option Mapped) → mapped (sides h k.regions k.mem) a.kind (bytes_of k.tree (file_in want)) want ≡ o → (r : Result ℕ MapFault) →
-          Maps o (sides h k.regions k.mem) (sides left.held rs mem) r → IsAddress r (Ok value) → Brought k e.value.space a.kind want h r recording →
+      by_mapped : (o : Option Mapped) → mapped (map_state h k.regions k.mem) a.kind (bytes_of k.tree (file_in want)) want ≡ o → (r : Result ℕ MapFault) →
+          Maps o (map_state h k.regions k.mem) (map_state left.held rs mem) r → IsAddress r (Ok value) → Brought k e.value.space a.kind want h r recording →
           carried (physical_of headers a k) (physical k.mem) (answered (world_of a k) the_ask (mapped_row the_ask want))
           ≡ after (physical_of headers (later 1 a) (record k { mem = mem; regions = rs; spaces = spaces; procs = procs; notes = notes; recording = recording })) false
       by_mapped (Some m) is (Ok addr) all says b =
           let g : Chosen a k e.value.space h want (chosen a k want) m = map_chosen a k regular e.value.space h runs.home want asks known m is in
-          let space = with_mapping (private_of k.mem h) g.mapping (first_bytes k.tree want) in
+          let space = with_mapping (private_of k.mem h) g.mapping (wanted_bytes k.tree want) in
           let at : value ≡ g.mapping.range.from = says ∙ all.0 ∙ g.addr in
-          let held_is : left.held ≡ m.sides.held = ap (λ (s : Sides). s.held) all.1 in
-          let mem_is : mem ≡ m.sides.memory = ap (λ (s : Sides). s.memory) all.1 in
+          let held_is : left.held ≡ m.map_state.held = ap (λ (s : MapState). s.held) all.1 in
+          let mem_is : mem ≡ m.map_state.memory = ap (λ (s : MapState). s.memory) all.1 in
           moved_in headers a k regular e h call runs is_call value spaces rs procs notes finishes noted_is recording space mem left.held
           (ap (private_of mem) (sym (held_is ∙ g.held)))
           (subst (OthersSame k e.value.space) (sym mem_is) g.others)
-          (ap (λ (s : Sides). length s.regions) all.1 ∙ g.pages)
+          (ap (λ (s : MapState). length s.regions) all.1 ∙ g.pages)
           (subst (Brings a k space) (sym mem_is) g.brings)
           (brought_there k e.value.space a.kind want h recording call asked m addr is b value g.mapping.range.from at g.below (private_bytes k.mem h))
           (mapped_row the_ask want)
@@ -385,12 +385,12 @@ module _ (headers : List (List ℕ)) (a : About) (k : Kept) (e : Entry Task) (h 
       by_mapped None is (Err fault.Memory) all says b = absurd says
       by_mapped None is (Err fault.Enomem) all says b =
           let none = map_refused a k regular e.value.space h runs.home want asks known is in
-          let held_is : left.held ≡ h = ap (λ (s : Sides). s.held) all in
-          let mem_is : mem ≡ k.mem = ap (λ (s : Sides). s.memory) all in
+          let held_is : left.held ≡ h = ap (λ (s : MapState). s.held) all in
+          let mem_is : mem ≡ k.mem = ap (λ (s : MapState). s.memory) all in
           moved_in headers a k regular e h call runs is_call value spaces rs procs notes finishes noted_is recording (private_of k.mem h) mem left.held
           (ap (private_of mem) (sym held_is))
           (subst (OthersSame k e.value.space) (sym mem_is) (λ j o other there. refl))
-          (ap (λ (s : Sides). length s.regions) all)
+          (ap (λ (s : MapState). length s.regions) all)
           (subst (Brings a k (private_of k.mem h)) (sym mem_is) (brings_none a k regular e.value.space h runs.home))
           (brought_nowhere k e.value.space a.kind want h recording call b value says (private_bytes k.mem h))
           (mapped_row the_ask want)

@@ -17,7 +17,7 @@ use Rattle.mmap_rules.specs.declared.want.Want.{Want}
 use Rattle.mmap_rules.specs.Held.{Held, page_address}
 use Rattle.mmap_rules.specs.Want.{AsksPages}
 use Rattle.mmap_rules.specs.Mappings.{run_mapping, part_mapping}
-use Rattle.mmap_rules.specs.Sides.{sides, Mapped, mapped, file_in}
+use Rattle.mmap_rules.specs.MapState.{map_state, Mapped, mapped, file_in}
 use Rattle.mmap_rules.proofs.Change.{change}
 use Rattle.mmap_rules.proofs.NamesMore.{used}
 use Rattle.mem_files.specs.Inodes.{bytes_of}
@@ -250,30 +250,30 @@ module _ (k : Kept) (regular : Regular k) where
 
 -- memory has as many pages as it had
 pub map_pages : (k : Kept) → Regular k → (h : Held) (kind : Kind) (bytes : List ℕ) (want : Want) → AsksPages want → (m : Mapped)
-    → mapped (sides h k.regions k.mem) kind bytes want ≡ Some m → length m.sides.regions ≡ length k.regions
+    → mapped (map_state h k.regions k.mem) kind bytes want ≡ Some m → length m.map_state.regions ≡ length k.regions
 map_pages k regular h kind bytes want asks m is =
-    elim (change (sides h k.regions k.mem) kind bytes want m asks regular.regions is) [
+    elim (change (map_state h k.regions k.mem) kind bytes want m asks regular.regions is) [
       | inl run ↦ ap (length {A = Region}) run.regions ∙ length-set k.regions run.first (record { first = run.first; pages = run.count; source = run.source; uses = 1 })
       | inr one ↦ ap (length {A = Region}) one.regions ∙ length-set k.regions one.region.first (used one.region)
     ]
 
 pub map_regular : (k : Kept) (regular : Regular k) (copies : CopiesHold k.regions k.mem k.tree k.notes) (number : ℕ) (h : Held)
     (home : slice_get k.spaces number ≡ Some (Some h)) (kind : Kind) (want : Want) (asks : AsksPages want) (known : IsKnown k.tree want) (m : Mapped)
-    → mapped (sides h k.regions k.mem) kind (bytes_of k.tree (file_in want)) want ≡ Some m
-    → Regular (record k { mem = m.sides.memory; regions = m.sides.regions; spaces = slice_set k.spaces number (Some m.sides.held) })
+    → mapped (map_state h k.regions k.mem) kind (bytes_of k.tree (file_in want)) want ≡ Some m
+    → Regular (record k { mem = m.map_state.memory; regions = m.map_state.regions; spaces = slice_set k.spaces number (Some m.map_state.held) })
 map_regular k regular copies number h home kind want asks known m is =
-    elim (change (sides h k.regions k.mem) kind (bytes_of k.tree (file_in want)) want m asks regular.regions is) [
+    elim (change (map_state h k.regions k.mem) kind (bytes_of k.tree (file_in want)) want m asks regular.regions is) [
       | inl run ↦
           let v : Region = record { first = run.first; pages = run.count; source = run.source; uses = 1 } in
           let n : Mapping = run_mapping run.first run.count run.writes run.anonymous run.source in
-          let len : length m.sides.memory ≡ length k.mem =
+          let len : length m.map_state.memory ≡ length k.mem =
           ap length run.memory
           ∙ length-laid k.mem (4096 * run.first) run.content (run_inside k regular run.first run.count run.content run.free run.len) in
-          rw run.regions (regular_more k number h m.sides.held v n regular home
-          (fresh_fits k regular run.first run.count run.writes run.anonymous run.source run.free run.some run.written) run.maps m.sides.memory len run.pages)
+          rw run.regions (regular_more k number h m.map_state.held v n regular home
+          (fresh_fits k regular run.first run.count run.writes run.anonymous run.source run.free run.some run.written) run.maps m.map_state.memory len run.pages)
       | inr one ↦
           let r : Region = one.region in
           let n : Mapping = part_mapping r.first r.pages r.source one.skip one.count in
-          rw one.regions (regular_more k number h m.sides.held (used r) n regular home
-          (copy_fits k regular r one.skip one.count one.there one.live one.copy one.fits) one.maps m.sides.memory (ap length one.memory) one.pages)
+          rw one.regions (regular_more k number h m.map_state.held (used r) n regular home
+          (copy_fits k regular r one.skip one.count one.there one.live one.copy one.fits) one.maps m.map_state.memory (ap length one.memory) one.pages)
     ]

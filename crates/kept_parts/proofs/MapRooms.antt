@@ -10,16 +10,16 @@ use Rattle.mem_files.specs.Inodes.{Inodes, bytes_of}
 use Rattle.mmap_rules.specs.declared.want.Want.{Want}
 use Rattle.mmap_rules.specs.declared.want.Want.TheVariants.{Anon, File}
 use Rattle.mmap_rules.specs.Want.{AsksPages}
-use Rattle.mmap_rules.specs.Copies.{IsKnown}
+use Rattle.mmap_rules.specs.Copies.{IsKnown, wanted_bytes, pages_of}
 use Rattle.mmap_rules.specs.Space.{Space}
 use Rattle.mmap_rules.specs.Held.{Held}
-use Rattle.mmap_rules.specs.Sides.{Mapped, sides, file_in}
-use Rattle.mmap_rules.specs.Sides.{mapped as mapped_in}
+use Rattle.mmap_rules.specs.MapState.{Mapped, map_state, file_in}
+use Rattle.mmap_rules.specs.MapState.{mapped as mapped_in}
 use Rattle.mmap_rules.proofs.FilePages.{length-file_pages}
 use Rattle.vfork_exec.specs.declared.entry.Entry.{Entry}
 use Rattle.file_calls.specs.declared.call.Call.{Call}
 use Rattle.machine_world.specs.Asks.{Ask, Reply, replies}
-use Rattle.machine_world.specs.MapCalls.{with_mapping, first_bytes, pages_of, maps, mapped}
+use Rattle.machine_world.specs.MapCalls.{with_mapping, maps, mapped}
 use Rattle.machine_world.specs.Recordings.{is_recorded, with_brought}
 use Rattle.machine_world.specs.Event.{entry_of, maps_file, brought, lists_brought, room_for}
 use Rattle.machine_world.proofs.Refused.{is_refused, maps_nothing}
@@ -67,7 +67,7 @@ module _ (a : About) (k : Kept) (regular : Regular k) (e : Entry Task) (h : Held
   ask = ask_in a k e h call
 
   abbrev found : Option Mapped
-  found = mapped_in (sides h k.regions k.mem) a.kind (bytes_of k.tree (file_in want)) want
+  found = mapped_in (map_state h k.regions k.mem) a.kind (bytes_of k.tree (file_in want)) want
 
   entry_same : (value : ℕ) → entry_of ask value [] ≡ noted_entry call value []
   entry_same value = λ i. record { pid = sym is_call.pid i; call = sym is_call.number i; args = sym is_call.args i; sent = call.sent.items; reply = value; got = [] }
@@ -84,7 +84,7 @@ module _ (a : About) (k : Kept) (regular : Regular k) (e : Entry Task) (h : Held
       by (Some m) there =
           let g : Chosen a k e.value.space h want (chosen a k want) m = map_chosen a k regular e.value.space h runs.home want asks known m there in
           let from = g.mapping.range.from in
-          let space : Space = with_mapping (private_of k.mem h) g.mapping (first_bytes k.tree want) in
+          let space : Space = with_mapping (private_of k.mem h) g.mapping (wanted_bytes k.tree want) in
           let now : reply ≡ reply_at from space = sym (same_reply (reply_at from space) reply (sym (ap (maps ask want) g.chosen) ∙ is)) in
           let brings : length (brought (entry_of ask from []) space.bytes) ≡ (if is_file want then 4096 * pages_of want else 0) =
           length_brought (entry_of ask from []) space.bytes

@@ -13,11 +13,11 @@ use Rattle.mmap_rules.specs.Want.{AsksPages}
 use Rattle.mmap_rules.specs.Space.{Space}
 use Rattle.mmap_rules.specs.Held.{Held}
 use Rattle.mmap_rules.specs.Mappings.{hit, without_hit}
-use Rattle.mmap_rules.specs.Sides.{Sides, sides, Mapped, mapped, file_in, Maps, Freed, freed, unmapped, Unmaps}
+use Rattle.mmap_rules.specs.MapState.{MapState, map_state, Mapped, mapped, file_in, Maps, Freed, freed, unmapped, Unmaps}
 use Rattle.mem_files.specs.Inodes.{bytes_of}
 use Rattle.vfork_exec.specs.declared.entry.Entry.{Entry}
 use Rattle.vfork_exec.specs.Procs.{Listed}
-use Rattle.machine_world.specs.MapCalls.{with_mapping, first_bytes, maps, over_maps, unmaps}
+use Rattle.machine_world.specs.MapCalls.{with_mapping, maps, over_maps, unmaps}
 use Rattle.machine_world.specs.MapCalls.{mapped as mapped_row}
 use Rattle.machine_world.specs.Asks.{Ask, leaves}
 use Rattle.page_runs.specs.declared.place.Kind.{Kind}
@@ -28,7 +28,7 @@ use Rattle.kept_parts.specs.Regular.{Regular}
 use Rattle.kept_parts.specs.Copies.{CopiesHold, HoldsFiles}
 use Rattle.machine_world.specs.Ages.{kept_calls}
 use Rattle.physical_turns.specs.Physical.{has_stray}
-use Rattle.mmap_rules.specs.Copies.{IsKnown}
+use Rattle.mmap_rules.specs.Copies.{IsKnown, wanted_bytes}
 use Rattle.machine_world.specs.World.{Recording}
 use Rattle.kept_parts.specs.Recorded.{event_recorded, call_recorded}
 use Rattle.kept_parts.specs.Stands.{About, private_bytes, private_of, OthersSame, world_of}
@@ -69,18 +69,18 @@ module _ (k : Kept) (regular : Regular k) (copies : CopiesHold k.regions k.mem k
 
   module _ (kind : Kind) (want : Want) (asks : AsksPages want) (known : IsKnown k.tree want) where
     abbrev left_by : Option Mapped
-    left_by = mapped (sides h k.regions k.mem) kind (bytes_of k.tree (file_in want)) want
+    left_by = mapped (map_state h k.regions k.mem) kind (bytes_of k.tree (file_in want)) want
 
     pub keeps_mapped : (spaces : List (Option Held)) (rs : List Region) (mem : List ℕ) (result : Result ℕ MapFault) →
         MapsIn kind (bytes_of k.tree (file_in want)) want number h k.spaces spaces k.regions rs k.mem mem result → Keeps 1 k (with_maps k mem rs spaces)
     keeps_mapped spaces rs mem result left = by_mapped left_by refl result left.maps
       where
-        same : sides left.held rs mem ≡ sides h k.regions k.mem → Keeps 1 k (with_maps k mem rs spaces)
-        same is = subst (Keeps 1 k) (same_maps mem rs spaces left.held (ap (λ (s : Sides). s.memory) is) (ap (λ (s : Sides). s.regions) is) (ap (λ (s : Sides). s.held) is) left.spaces) (keeps_same 1)
+        same : map_state left.held rs mem ≡ map_state h k.regions k.mem → Keeps 1 k (with_maps k mem rs spaces)
+        same is = subst (Keeps 1 k) (same_maps mem rs spaces left.held (ap (λ (s : MapState). s.memory) is) (ap (λ (s : MapState). s.regions) is) (ap (λ (s : MapState). s.held) is) left.spaces) (keeps_same 1)
 
-        by_mapped : (o : Option Mapped) → left_by ≡ o → (r : Result ℕ MapFault) → Maps o (sides h k.regions k.mem) (sides left.held rs mem) r → Keeps 1 k (with_maps k mem rs spaces)
+        by_mapped : (o : Option Mapped) → left_by ≡ o → (r : Result ℕ MapFault) → Maps o (map_state h k.regions k.mem) (map_state left.held rs mem) r → Keeps 1 k (with_maps k mem rs spaces)
         by_mapped (Some m) is (Ok addr) all =
-            let now : with_maps k m.sides.memory m.sides.regions (slice_set k.spaces number (Some m.sides.held)) ≡ with_maps k mem rs spaces =
+            let now : with_maps k m.map_state.memory m.map_state.regions (slice_set k.spaces number (Some m.map_state.held)) ≡ with_maps k mem rs spaces =
             (λ i. with_maps k (sym all.1 i).memory (sym all.1 i).regions (slice_set k.spaces number (Some (sym all.1 i).held))) ∙ (λ i. with_maps k mem rs (sym left.spaces i)) in
             subst (Keeps 1 k) now (
               map_regular k regular copies number h home kind want asks known m is,
@@ -98,14 +98,14 @@ module _ (k : Kept) (regular : Regular k) (copies : CopiesHold k.regions k.mem k
         MapsIn kind (bytes_of k.tree (file_in want)) want number h k.spaces spaces k.regions rs k.mem mem result → IsAddress result (Err error) → k ≡ with_maps k mem rs spaces
     same_mapped spaces rs mem result error left says = by_result left_by result left.maps says
       where
-        by_result : (o : Option Mapped) (r : Result ℕ MapFault) → Maps o (sides h k.regions k.mem) (sides left.held rs mem) r → IsAddress r (Err error) → k ≡ with_maps k mem rs spaces
+        by_result : (o : Option Mapped) (r : Result ℕ MapFault) → Maps o (map_state h k.regions k.mem) (map_state left.held rs mem) r → IsAddress r (Err error) → k ≡ with_maps k mem rs spaces
         by_result o (Ok addr) all says = absurd says
         by_result o (Err fault.Enomem) all says = absurd says
         by_result o (Err fault.Memory) all says =
-            let is : sides left.held rs mem ≡ sides h k.regions k.mem = at o all in
-            same_maps mem rs spaces left.held (ap (λ (s : Sides). s.memory) is) (ap (λ (s : Sides). s.regions) is) (ap (λ (s : Sides). s.held) is) left.spaces
+            let is : map_state left.held rs mem ≡ map_state h k.regions k.mem = at o all in
+            same_maps mem rs spaces left.held (ap (λ (s : MapState). s.memory) is) (ap (λ (s : MapState). s.regions) is) (ap (λ (s : MapState). s.held) is) left.spaces
           where
-            at : (o : Option Mapped) → Maps o (sides h k.regions k.mem) (sides left.held rs mem) (Err fault.Memory) → sides left.held rs mem ≡ sides h k.regions k.mem
+            at : (o : Option Mapped) → Maps o (map_state h k.regions k.mem) (map_state left.held rs mem) (Err fault.Memory) → map_state left.held rs mem ≡ map_state h k.regions k.mem
             at (Some m) all = all
             at None all = all
 
@@ -148,23 +148,23 @@ module _ (a : About) (k : Kept) (e : Entry Task) (h : Held) (call : Call) (runs 
       Changed a k e h call (mapped_row (ask_in a k e h call) want) (record k { mem = mem; regions = rs; spaces = spaces; procs = procs; notes = notes; recording = recording })
   unfolding world_of
   changed_mapped regular holds want asks known asked mem result left says brought =
-      by_mapped (mapped (sides h k.regions k.mem) a.kind (bytes_of k.tree (file_in want)) want) refl result left.maps says brought
+      by_mapped (mapped (map_state h k.regions k.mem) a.kind (bytes_of k.tree (file_in want)) want) refl result left.maps says brought
     where
-      by_mapped : (o : Option Mapped) → mapped (sides h k.regions k.mem) a.kind (bytes_of k.tree (file_in want)) want ≡ o → (r : Result ℕ MapFault) →
-          Maps o (sides h k.regions k.mem) (sides left.held rs mem) r → IsAddress r (Ok value) → Brought k e.value.space a.kind want h r recording →
+      by_mapped : (o : Option Mapped) → mapped (map_state h k.regions k.mem) a.kind (bytes_of k.tree (file_in want)) want ≡ o → (r : Result ℕ MapFault) →
+          Maps o (map_state h k.regions k.mem) (map_state left.held rs mem) r → IsAddress r (Ok value) → Brought k e.value.space a.kind want h r recording →
           Changed a k e h call (mapped_row ask want) (record k { mem = mem; regions = rs; spaces = spaces; procs = procs; notes = notes; recording = recording })
       by_mapped (Some m) is (Ok addr) all says b =
           let g : Agrees k e.value.space h want (chosen a k want) m = map_agrees a k regular e.value.space h runs.home holds want asks known m is in
-          let space = with_mapping (private_of k.mem h) g.mapping (first_bytes k.tree want) in
+          let space = with_mapping (private_of k.mem h) g.mapping (wanted_bytes k.tree want) in
           let at : value ≡ g.mapping.range.from = says ∙ all.0 ∙ g.addr in
-          let held_is : left.held ≡ m.sides.held = ap (λ (s : Sides). s.held) all.1 in
-          let mem_is : mem ≡ m.sides.memory = ap (λ (s : Sides). s.memory) all.1 in
+          let held_is : left.held ≡ m.map_state.held = ap (λ (s : MapState). s.held) all.1 in
+          let mem_is : mem ≡ m.map_state.memory = ap (λ (s : MapState). s.memory) all.1 in
           moved_by a k e h call runs is_call (mapped_row ask want) space value mem rs left.held spaces procs notes recording
           (ap (maps ask want) g.chosen ∙ ap (λ (v : ℕ). leaves ask v space) (sym at))
           (held_is ∙ g.held)
           (sym g.space ∙ (λ i. private_of (sym mem_is i) (sym held_is i)))
           (subst (OthersSame k e.value.space) (sym mem_is) g.others)
-          (ap (λ (s : Sides). length s.regions) all.1 ∙ g.pages)
+          (ap (λ (s : MapState). length s.regions) all.1 ∙ g.pages)
           left.spaces finishes noted
           (brought_there k e.value.space a.kind want h recording call asked m addr is b value g.mapping.range.from at g.below (private_bytes k.mem h))
       by_mapped (Some m) is (Err fault.Enomem) all says b = absurd all
@@ -173,14 +173,14 @@ module _ (a : About) (k : Kept) (e : Entry Task) (h : Held) (call : Call) (runs 
       by_mapped None is (Err fault.Memory) all says b = absurd says
       by_mapped None is (Err fault.Enomem) all says b =
           let none = map_refused a k regular e.value.space h runs.home want asks known is in
-          let held_is : left.held ≡ h = ap (λ (s : Sides). s.held) all in
-          let mem_is : mem ≡ k.mem = ap (λ (s : Sides). s.memory) all in
+          let held_is : left.held ≡ h = ap (λ (s : MapState). s.held) all in
+          let mem_is : mem ≡ k.mem = ap (λ (s : MapState). s.memory) all in
           moved_by a k e h call runs is_call (mapped_row ask want) (private_of k.mem h) value mem rs left.held spaces procs notes recording
           (ap (maps ask want) none ∙ ap (λ (v : ℕ). leaves ask v (private_of k.mem h)) (sym says))
           held_is
           (λ i. private_of (sym mem_is i) (sym held_is i))
           (subst (OthersSame k e.value.space) (sym mem_is) (λ j o other there. refl))
-          (ap (λ (s : Sides). length s.regions) all)
+          (ap (λ (s : MapState). length s.regions) all)
           left.spaces finishes noted
           (brought_nowhere k e.value.space a.kind want h recording call b value says (private_bytes k.mem h))
 

@@ -2,7 +2,7 @@
 use Rattle.std.proofs.Common.{◌≡◌, ℕ, ◌+◌, ◌≤◌, arith}
 use Rattle.std.specs.Prelude.{Some, slice_get}
 use Rattle.mmap_rules.specs.Held.{Held}
-use Rattle.mmap_rules.specs.Sides.{NameRegions, AreFew}
+use Rattle.mmap_rules.specs.MapState.{NameRegions, AreFew}
 use Rattle.kept_parts.specs.Kept.{Kept}
 use Rattle.kept_parts.specs.Regular.{Regular}
 use Rattle.kept_parts.specs.Copies.{CopiesHold}

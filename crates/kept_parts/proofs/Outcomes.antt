@@ -8,7 +8,7 @@ use Rattle.rv32im_step.specs.declared.access.AccessKind.TheVariants as access_ki
 use Rattle.rv32im_step.specs.Registers.{register}
 use Rattle.call_log.specs.declared.how.How.{How}
 use Rattle.call_log.specs.declared.how.How.TheVariants.{Exit, Signal}
-use Rattle.call_log.specs.Notes.{Written, CallEntry, Note, call_note, end_note, weight_of}
+use Rattle.call_log.specs.Notes.{GotRange, CallEntry, Note, call_note, end_note, weight_of}
 use Rattle.call_log.specs.Sent.{Span, sent}
 use Rattle.nommu_regions.specs.declared.region.Region.{Region}
 use Rattle.mmap_rules.specs.Held.{Held}
@@ -27,7 +27,7 @@ use Rattle.machine_world.specs.Event.{Trace, Outcome, went, strays, full, with_s
 use Rattle.kept_parts.specs.declared.task.Task.{Task}
 use Rattle.file_calls.specs.declared.call.Call.{Call}
 use Rattle.file_calls.specs.declared.outcome.Outcome.{Outcome as Output}
-use Rattle.file_calls.specs.Calls.{MadeBy, WaitsOn, IsChange, is_change, is_output, with_all, after, written_of}
+use Rattle.file_calls.specs.Calls.{MadeBy, WaitsOn, IsChange, is_change, is_output, with_all, after, got_of}
 use Rattle.kept_parts.specs.declared.effect.Effect.{Effect}
 use Rattle.kept_parts.specs.declared.effect.Effect.TheVariants.{Answer, Yield, Break}
 use Rattle.kept_parts.specs.declared.served.Served.{Served}
@@ -35,12 +35,12 @@ use Rattle.kept_parts.specs.declared.served.Served.TheVariants.{Replied, Ended, 
 use Rattle.kept_parts.specs.Kept.{Kept}
 use Rattle.kept_parts.specs.Regular.{Regular}
 use Rattle.kept_parts.specs.Stands.{About, later, private_bytes, private_of, process_of, world_of, OthersSame}
-use Rattle.call_bytes.specs.Puts.{first_stray, access_at}
+use Rattle.call_bytes.specs.Puts.{stray_range, access_at}
 use Rattle.kept_parts.specs.Serves.{Went, Answered, Serves, Died}
 use Rattle.kept_parts.specs.Gone.{gone}
 use Rattle.kept_parts.specs.Recorded.{event_recorded, call_recorded, room_beside}
 use Rattle.call_bytes.specs.declared.reading.Unread.TheVariants as unread
-use Rattle.kept_parts.specs.Calls.{LivesIn, IsCall, Made, Changed, given, Gave, RoomFor, reply_of, ask_in, value_of, maps_by, served_by, noted_entry, noted_call, held_as, after_reply, exit_of, after_exit, Caller, asked_by}
+use Rattle.kept_parts.specs.Calls.{LivesIn, IsCall, Made, Changed, output_reply, Gave, RoomFor, reply_of, ask_in, value_of, maps_by, served_by, noted_entry, noted_call, held_as, after_reply, exit_of, after_exit, Caller, asked_by}
 use Rattle.std.proofs.lemmas.Option.{same_Some}
 use Rattle.call_bytes.proofs.Puts.{put_all, put_strays}
 use Rattle.kept_parts.proofs.QuietRows.{Quiet}
@@ -189,7 +189,7 @@ went_by (Answer value) ask t new pid over events lives = (over, events, lives)
 went_by Yield ask t new pid over events lives = (over, events, lives)
 went_by (Break to) ask t new pid over events lives = (over, events, lives)
 
-same_entry : (p q n m : ℕ) (xs ys : List ℕ) (bytes : List ℕ) (value : ℕ) (got : List Written) → p ≡ q → n ≡ m → xs ≡ ys →
+same_entry : (p q n m : ℕ) (xs ys : List ℕ) (bytes : List ℕ) (value : ℕ) (got : List GotRange) → p ≡ q → n ≡ m → xs ≡ ys →
     ◌≡◌ {A = CallEntry} (record { pid = p; call = n; args = xs; sent = bytes; reply = value; got = got }) (record { pid = q; call = m; args = ys; sent = bytes; reply = value; got = got })
 same_entry p q n m xs ys bytes value got e f g = λ i. record { pid = e i; call = f i; args = g i; sent = bytes; reply = value; got = got }
 
@@ -207,10 +207,10 @@ module _ (a : About) (k : Kept) (e : Entry Task) (h : Held) (call : Call) (runs 
   weighs : (bytes : List ℕ) (b : Bool) → room_beside k (length bytes) ≡ b → room_beside k (weight_of bytes []) ≡ b
   weighs bytes b room = ap (room_beside k) (add-zero (length bytes)) ∙ room
 
-  pub entry_is : (value : ℕ) (got : List Written) → noted_entry call value got ≡ entry_of (ask_in a k e h call) value got
+  pub entry_is : (value : ℕ) (got : List GotRange) → noted_entry call value got ≡ entry_of (ask_in a k e h call) value got
   entry_is value got = same_entry call.pid e.pid call.number (number_of e.value.regs) call.args (args_of e.value.regs) call.sent.items value got is.pid is.number is.args
 
-  note_is : (value : ℕ) (got : List Written) → noted_call call value got ≡ call_note (entry_of (ask_in a k e h call) value got)
+  note_is : (value : ℕ) (got : List GotRange) → noted_call call value got ≡ call_note (entry_of (ask_in a k e h call) value got)
   note_is value got = ap call_note (entry_is value got)
 
   -- a call that maps no file has room where it has it for itself
@@ -228,7 +228,7 @@ module _ (a : About) (k : Kept) (e : Entry Task) (h : Held) (call : Call) (runs 
   ask = ask_in a k e h call
 
   -- which changes tree, files and console, and nothing else outside
-  module _ (value : ℕ) (got : List Written) (tree : Inodes) (files : OpenFiles) (console : List ℕ) (space : Space) (over : Bool) where
+  module _ (value : ℕ) (got : List GotRange) (tree : Inodes) (files : OpenFiles) (console : List ℕ) (space : Space) (over : Bool) where
     abbrev reply : Reply
     reply = record { value = value; got = got; rest = with_all ask.rest tree files console; space = space; over = over }
 
@@ -316,7 +316,7 @@ module _ (a : About) (k : Kept) (e : Entry Task) (h : Held) (call : Call) (runs 
     value_is (Break to) = refl
 
     weighs_alone : (b : Bool) → room_beside k (length call.sent.items) ≡ b → room_beside k (weight_of call.sent.items effect_reply.got) ≡ b
-    weighs_alone b room = ap (λ (gots : List Written). room_beside k (weight_of call.sent.items gots)) (got_none f) ∙ weighs call.sent.items b room
+    weighs_alone b room = ap (λ (gots : List GotRange). room_beside k (weight_of call.sent.items gots)) (got_none f) ∙ weighs call.sent.items b room
 
     maps_no_file : maps_by call f ≡ false → maps_file (noted_entry call effect_reply.value effect_reply.got) ≡ false
     maps_no_file plain =
@@ -355,7 +355,7 @@ module _ (a : About) (k : Kept) (e : Entry Task) (h : Held) (call : Call) (runs 
   pub room_for_row : (rows : Row) → Quiet rows → (call.number == 222) ≡ false → room_beside k (length call.sent.items) ≡ true → RoomFor (world_of a k) (ask_in a k e h call) rows
   room_for_row rows quiet plain room = λ r is.
       plain_room r true (maps_none call r.value r.got plain)
-      (ap (λ (gots : List Written). room_beside k (weight_of call.sent.items gots)) (quiet_got r (subst Quiet is quiet)) ∙ weighs call.sent.items true room)
+      (ap (λ (gots : List GotRange). room_beside k (weight_of call.sent.items gots)) (quiet_got r (subst Quiet is quiet)) ∙ weighs call.sent.items true room)
     where
       quiet_got : (r : Reply) → Quiet (replies r) → r.got ≡ []
       quiet_got r got = got
@@ -370,14 +370,14 @@ module _ (a : About) (k : Kept) (e : Entry Task) (h : Held) (call : Call) (runs 
         where
           is_full : answered (world_of a k) ask (replies r) ≡ full
           is_full =
-              ap (λ (gots : List Written). put (world_of a k) ask r (put_got r.space.bytes (writable_in r.space.maps) gots)) got
+              ap (λ (gots : List GotRange). put (world_of a k) ask r (put_got r.space.bytes (writable_in r.space.maps) gots)) got
               ∙ served_full (world_of a k) ask r r.space.bytes (none r refl)
       by_row (waits who) quiet none = absurd quiet
 
   -- nor for the call alone
   pub quiet_full : (rows : Row) → Quiet rows → room_beside k (length call.sent.items) ≡ false → Answered a (answered (world_of a k) ask rows) k k call.pid LogFull
   quiet_full rows quiet room = brings_full rows quiet (λ r is.
-      room_never a k e h call r (ap (λ (gots : List Written). room_beside k (weight_of call.sent.items gots)) (quiet_got r (subst Quiet is quiet)) ∙ weighs call.sent.items false room))
+      room_never a k e h call r (ap (λ (gots : List GotRange). room_beside k (weight_of call.sent.items gots)) (quiet_got r (subst Quiet is quiet)) ∙ weighs call.sent.items false room))
     where
       quiet_got : (r : Reply) → Quiet (replies r) → r.got ≡ []
       quiet_got r got = got
@@ -388,48 +388,48 @@ module _ (a : About) (k : Kept) (e : Entry Task) (h : Held) (call : Call) (runs 
     abbrev files_then : OpenFiles
     files_then = after o.then e.value.table k.files
 
-    given_shape : given ask o ≡ reply o.value (written_of o) k.tree files_then k.console (private_of k.mem h) false
+    given_shape : output_reply ask o ≡ reply o.value (got_of o) k.tree files_then k.console (private_of k.mem h) false
     unfolding world_of
     given_shape = refl
 
     private_is : (mem : List ℕ) → record (private_of k.mem h) { bytes = private_bytes mem h } ≡ private_of mem h
     private_is mem = refl
 
-    output_room : (b : Bool) → (call.number == 222) ≡ false → room_beside k (weight_of call.sent.items (written_of o)) ≡ b → room_for (world_of a k) (ask_in a k e h call) (given ask o) ≡ b
-    output_room b plain room = plain_room (given ask o) b (maps_none call o.value (written_of o) plain) room
+    output_room : (b : Bool) → (call.number == 222) ≡ false → room_beside k (weight_of call.sent.items (got_of o)) ≡ b → room_for (world_of a k) (ask_in a k e h call) (output_reply ask o) ≡ b
+    output_room b plain room = plain_room (output_reply ask o) b (maps_none call o.value (got_of o) plain) room
 
-    pub output_serves : (new : Kept) → Gave a k e h call o new → (call.number == 222) ≡ false → room_beside k (weight_of call.sent.items (written_of o)) ≡ true →
-        Answered a (answered (world_of a k) ask (replies (given ask o))) k new call.pid Replied
+    pub output_serves : (new : Kept) → Gave a k e h call o new → (call.number == 222) ≡ false → room_beside k (weight_of call.sent.items (got_of o)) ≡ true →
+        Answered a (answered (world_of a k) ask (replies (output_reply ask o))) k new call.pid Replied
     output_serves new c plain room =
-        let served = reply_serves o.value (written_of o) k.tree files_then k.console (private_of k.mem h) false new.mem k.regions refl k.starts c.put (private_is new.mem) c.others
+        let served = reply_serves o.value (got_of o) k.tree files_then k.console (private_of k.mem h) false new.mem k.regions refl k.starts c.put (private_is new.mem) c.others
         (subst (λ (x : Reply). room_for (world_of a k) ask x ≡ true) given_shape (output_room true plain room)) Replied (λ t n over events lives. (over, events, lives)) in
         let by_reply = subst (λ (x : Reply). Answered a (answered (world_of a k) ask (replies x)) k (after_reply k e h call x new.mem) call.pid Replied) (sym given_shape) served in
-        subst (λ (x : Kept). Answered a (answered (world_of a k) ask (replies (given ask o))) k x call.pid Replied) (sym c.after) by_reply
+        subst (λ (x : Kept). Answered a (answered (world_of a k) ask (replies (output_reply ask o))) k x call.pid Replied) (sym c.after) by_reply
 
-    pub output_full : first_stray (writable_in h.maps) (written_of o) ≡ None → room_beside k (weight_of call.sent.items (written_of o)) ≡ false →
-        Answered a (answered (world_of a k) ask (replies (given ask o))) k k call.pid LogFull
+    pub output_full : stray_range (writable_in h.maps) (got_of o) ≡ None → room_beside k (weight_of call.sent.items (got_of o)) ≡ false →
+        Answered a (answered (world_of a k) ask (replies (output_reply ask o))) k k call.pid LogFull
     output_full fits room =
-        let all = put_all (private_bytes k.mem h) (writable_in h.maps) (written_of o) fits in
+        let all = put_all (private_bytes k.mem h) (writable_in h.maps) (got_of o) fits in
         subst (λ (x : Reply). Answered a (answered (world_of a k) ask (replies x)) k k call.pid LogFull) (sym given_shape)
-        (reply_full o.value (written_of o) k.tree files_then k.console (private_of k.mem h) false all.0 all.1
-        (subst (λ (x : Reply). room_for (world_of a k) ask x ≡ false) given_shape (room_never a k e h call (given ask o) room)))
+        (reply_full o.value (got_of o) k.tree files_then k.console (private_of k.mem h) false all.0 all.1
+        (subst (λ (x : Reply). room_for (world_of a k) ask x ≡ false) given_shape (room_never a k e h call (output_reply ask o) room)))
 
-    pub output_strays : (access : Access) → Some access ≡ option_map (access_at e.value.regs.pc) (first_stray (writable_in h.maps) (written_of o)) →
-        Answered a (answered (world_of a k) ask (replies (given ask o))) k k call.pid (Stray access)
-    output_strays access is = by_span (first_stray (writable_in h.maps) (written_of o)) refl is
+    pub output_strays : (access : Access) → Some access ≡ option_map (access_at e.value.regs.pc) (stray_range (writable_in h.maps) (got_of o)) →
+        Answered a (answered (world_of a k) ask (replies (output_reply ask o))) k k call.pid (Stray access)
+    output_strays access is = by_span (stray_range (writable_in h.maps) (got_of o)) refl is
       where
-        by_span : (found : Option Span) → first_stray (writable_in h.maps) (written_of o) ≡ found → Some access ≡ option_map (access_at e.value.regs.pc) found →
-            Answered a (answered (world_of a k) ask (replies (given ask o))) k k call.pid (Stray access)
+        by_span : (found : Option Span) → stray_range (writable_in h.maps) (got_of o) ≡ found → Some access ≡ option_map (access_at e.value.regs.pc) found →
+            Answered a (answered (world_of a k) ask (replies (output_reply ask o))) k k call.pid (Stray access)
         by_span None there is = absurd cc
         by_span (Some span) there is =
             let seen : access_at e.value.regs.pc span ≡ access = same_Some _ _ (sym is) in
-            subst (λ (x : Access). Answered a (answered (world_of a k) ask (replies (given ask o))) k k call.pid (Stray x)) seen
+            subst (λ (x : Access). Answered a (answered (world_of a k) ask (replies (output_reply ask o))) k k call.pid (Stray x)) seen
             (subst (λ (x : Reply). Answered a (answered (world_of a k) ask (replies x)) k k call.pid (Stray (access_at e.value.regs.pc span))) (sym given_shape)
-            (reply_strays o.value (written_of o) k.tree files_then k.console (private_of k.mem h) false span (put_strays (private_bytes k.mem h) (writable_in h.maps) (written_of o) span there)))
+            (reply_strays o.value (got_of o) k.tree files_then k.console (private_of k.mem h) false span (put_strays (private_bytes k.mem h) (writable_in h.maps) (got_of o) span there)))
 
     -- it is the row of the call
-    pub output_answers : (result : Result Served AllocError) (new : Kept) → row ask ≡ replies (given ask o) →
-        Serves a (answered (world_of a k) ask (replies (given ask o))) k new call.pid result → Serves a (answered (world_of a k) ask (row ask)) k new call.pid result
+    pub output_answers : (result : Result Served AllocError) (new : Kept) → row ask ≡ replies (output_reply ask o) →
+        Serves a (answered (world_of a k) ask (replies (output_reply ask o))) k new call.pid result → Serves a (answered (world_of a k) ask (row ask)) k new call.pid result
     output_answers result new gives = subst (λ (x : Row). Serves a (answered (world_of a k) ask x) k new call.pid result) (sym gives)
 
   -- ---- an exit

@@ -3,7 +3,7 @@ use Rattle.std.proofs.Common.{◌≡◌, ℕ, Bool, true, false, List, [], map, 
 use Rattle.std.specs.Prelude.{if◌then◌else◌}
 use Rattle.std.specs.declared.alloc.AllocError.{AllocError}
 use Rattle.region_watch.specs.Private.{physical}
-use Rattle.call_log.specs.Notes.{Written, Note, weight_of}
+use Rattle.call_log.specs.Notes.{GotRange, Note, weight_of}
 use Rattle.byte_words.specs.ByteMap.{Bytes}
 use Rattle.flat_loader.specs.Alone.{put_got}
 use Rattle.mmap_rules.specs.Space.{writable_in}
@@ -58,7 +58,7 @@ waited_never w p state = tt
 -- a row that gives no bytes
 pub answered_never : (w : World) (a : Ask) (row : Row) → IsMute row → NeverStrays (answered w a row)
 answered_never w a (replies r) mute =
-    subst (λ (got : List Written). NeverStrays (put w a r (put_got r.space.bytes (writable_in r.space.maps) got))) (sym mute) (served_never w a r r.space.bytes)
+    subst (λ (got : List GotRange). NeverStrays (put w a r (put_got r.space.bytes (writable_in r.space.maps) got))) (sym mute) (served_never w a r r.space.bytes)
 answered_never w a (waits state) mute = waited_never w a.process state
 
 pub exited_never : (w : World) (a : Ask) → NeverStrays (exited w a)
@@ -80,8 +80,8 @@ cloned_never w a =
 -- a row that gives no bytes, in the one memory
 pub mute_carried : (p : Physical) (a : Ask) (row : Row) → IsMute row → answered_in p a row ≡ carried p p.memory (answered p.world a row)
 mute_carried p a (replies r) mute =
-    ap (λ (got : List Written). put_in p a r (put_got p.memory (in_memory p.world) got)) mute
-    ∙ ap (λ (got : List Written). carried p p.memory (put p.world a r (put_got r.space.bytes (writable_in r.space.maps) got))) (sym mute)
+    ap (λ (got : List GotRange). put_in p a r (put_got p.memory (in_memory p.world) got)) mute
+    ∙ ap (λ (got : List GotRange). carried p p.memory (put p.world a r (put_got r.space.bytes (writable_in r.space.maps) got))) (sym mute)
 mute_carried p a (waits state) mute = refl
 
 went_over : (t : Trace) (new : Kept) (pid : ℕ) (s : Served) → Went t new pid s → Over t.over new pid s
@@ -129,14 +129,14 @@ module _ (headers : List (List ℕ)) (a : About) (old new : Kept) (same : new.me
 
 module _ (p : Physical) (signal : ℕ) where
   pub died_carried : (pid : ℕ) → died_in p pid signal ≡ settled_in (carried p p.memory (at_process p.world pid (λ q s. trapped p.world q signal)))
-  unfolding died_in all.at_process at_process
+  unfolding died_in all.at_process_in at_process
   died_carried pid = by_found (find pid_of pid p.world.procs)
     where
-      in_either : (q : Process) (o : Option LiveSpace) → all.in_space (λ q s. settled_in (killed p q signal)) q o ≡ settled_in (carried p p.memory (in_space (λ q s. trapped p.world q signal) q o))
+      in_either : (q : Process) (o : Option LiveSpace) → all.in_space_in (λ q s. settled_in (killed p q signal)) q o ≡ settled_in (carried p p.memory (in_space (λ q s. trapped p.world q signal) q o))
       in_either q (Some s) = refl
       in_either q None = refl
 
-      by_found : (o : Option Process) → all.by_process p.world.spaces (λ q s. settled_in (killed p q signal)) o ≡ settled_in (carried p p.memory (by_process p.world.spaces (λ q s. trapped p.world q signal) o))
+      by_found : (o : Option Process) → all.by_process_in p.world.spaces (λ q s. settled_in (killed p q signal)) o ≡ settled_in (carried p p.memory (by_process p.world.spaces (λ q s. trapped p.world q signal) o))
       by_found (Some q) = in_either q (find id_of q.space p.world.spaces)
       by_found None = refl
 

@@ -4,11 +4,11 @@ use Rattle.std.specs.Prelude.{◌==◌, ◌&&◌, not, nat_le, ◌^◌, if◌the
 use Rattle.std.proofs.lemmas.Bool.Decides.{nat_tests}
 use Rattle.std.proofs.lemmas.List.{append-nil}
 use Rattle.byte_words.specs.ByteMap.{Bytes}
-use Rattle.call_log.specs.Notes.{Written, CallEntry, Note, calls_in, bytes_in, weight_of, has_room}
+use Rattle.call_log.specs.Notes.{GotRange, CallEntry, Note, calls_in, bytes_in, weight_of, has_room}
 use Rattle.call_log.specs.declared.note.Got.{Got}
 use Rattle.call_log.specs.declared.errno.Errno.{Errno}
 use Rattle.call_log.specs.Errno.{refusal}
-use Rattle.call_log.specs.Values.{written_value}
+use Rattle.call_log.specs.Values.{got_value}
 use Rattle.call_log.specs.Flags.{has_flag}
 use Rattle.mmap_rules.specs.Want.{map_anonymous}
 use Rattle.mmap_rules.specs.Held.{Held}
@@ -41,12 +41,12 @@ first_none : (x y z : Bool) → x ≡ false → (x && y && z) ≡ false
 first_none true y z h = absurd cc
 first_none false y z h = refl
 
-pub maps_by_none : (call : Call) (f : Effect) (next : ℕ → ℕ) (got : List Written) → maps_by call f ≡ false → maps_file (noted_entry call (value_of next f) got) ≡ false
+pub maps_by_none : (call : Call) (f : Effect) (next : ℕ → ℕ) (got : List GotRange) → maps_by call f ≡ false → maps_file (noted_entry call (value_of next f) got) ≡ false
 maps_by_none call (Answer value) next got h = front_none (call.number == 222) (not (is_errno value)) (not (has_flag (slice_index call.args 3) map_anonymous)) h
 maps_by_none call Yield next got h = first_none (call.number == 222) (not (is_errno 0)) (not (has_flag (slice_index call.args 3) map_anonymous)) h
 maps_by_none call (Break to) next got h = first_none (call.number == 222) (not (is_errno (next to))) (not (has_flag (slice_index call.args 3) map_anonymous)) h
 
-pub maps_none : (call : Call) (value : ℕ) (got : List Written) → (call.number == 222) ≡ false → maps_file (noted_entry call value got) ≡ false
+pub maps_none : (call : Call) (value : ℕ) (got : List GotRange) → (call.number == 222) ≡ false → maps_file (noted_entry call value got) ≡ false
 maps_none call value got h = first_none (call.number == 222) (not (is_errno value)) (not (has_flag (slice_index call.args 3) map_anonymous)) h
 
 -- nor does one that is refused
@@ -162,6 +162,6 @@ module _ (k old : Kept) (view : k ≡ old) (sent : List ℕ) (room : room_beside
   pub room_inside : has_room k.notes (length sent) ≡ true
   room_inside = room_alone k (length sent) (subst (λ (s : Kept). room_beside s (length sent) ≡ true) (sym view) room)
 
-  pub room_left : (notes : List Note) → notes ≡ k.notes → (xs : List Got) → xs ≡ [] → has_room notes (weight_of sent (map written_value xs)) ≡ true
+  pub room_left : (notes : List Note) → notes ≡ k.notes → (xs : List Got) → xs ≡ [] → has_room notes (weight_of sent (map got_value xs)) ≡ true
   room_left notes same xs none =
-      (λ i. has_room (same i) (weight_of sent (map written_value (none i)))) ∙ ap (has_room k.notes) (add-zero (length sent)) ∙ room_inside
+      (λ i. has_room (same i) (weight_of sent (map got_value (none i)))) ∙ ap (has_room k.notes) (add-zero (length sent)) ∙ room_inside

@@ -4,7 +4,7 @@ use Rattle.page_runs.specs.declared.place.Kind.TheVariants.{First}
 use Rattle.nommu_regions.specs.declared.region.Region.{Region}
 use Rattle.mmap_rules.specs.declared.mapping.Mapping.{Mapping}
 use Rattle.mmap_rules.specs.Held.{released}
-use Rattle.call_log.specs.Notes.{Written, Note}
+use Rattle.call_log.specs.Notes.{GotRange, Note}
 use Rattle.mem_files.specs.Inodes.{Inodes}
 use Rattle.fd_tables.specs.Files.{OpenFiles}
 use Rattle.fd_tables.specs.Changes.{Storage, storage, without_table}
@@ -22,13 +22,13 @@ use Rattle.kept_parts.specs.Calls.{noted_call}
 use Rattle.kept_parts.proofs.CopiesStay.{copies_noted, copies_aged, copies_released, call_counts}
 
 -- a call more is counted
-pub counts : (call : Call) (value : ℕ) (got : List Written) (old notes : List Note) → notes ≡ noted_call call value got ∷ old → kept_calls notes ≡ kept_calls old + 1
+pub counts : (call : Call) (value : ℕ) (got : List GotRange) (old notes : List Note) → notes ≡ noted_call call value got ∷ old → kept_calls notes ≡ kept_calls old + 1
 counts call value got old notes is =
     ap kept_calls is
     ∙ call_counts (record { pid = call.pid; call = call.number; args = call.args; sent = call.sent.items; reply = value; got = got }) old
 
 -- and it is no stray access
-pub call_strays : (call : Call) (value : ℕ) (got : List Written) (old notes : List Note) → notes ≡ noted_call call value got ∷ old → has_stray notes ≡ false → has_stray old ≡ false
+pub call_strays : (call : Call) (value : ℕ) (got : List GotRange) (old notes : List Note) → notes ≡ noted_call call value got ∷ old → has_stray notes ≡ false → has_stray old ≡ false
 call_strays call value got old notes is unstrayed = sym (ap has_stray is) ∙ unstrayed
 
 -- it has its reply

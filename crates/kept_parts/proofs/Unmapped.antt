@@ -10,7 +10,7 @@ use Rattle.mmap_rules.specs.Space.{in_range, own_in}
 use Rattle.mmap_rules.specs.Held.{Held, AreMappings}
 use Rattle.mmap_rules.specs.Want.{pages_for}
 use Rattle.mmap_rules.specs.Mappings.{left_of, Hit, hit, without_hit}
-use Rattle.mmap_rules.specs.Sides.{Freed, freed, after_hit, unmapped, Unmaps}
+use Rattle.mmap_rules.specs.MapState.{Freed, freed, after_hit, unmapped, Unmaps}
 use Rattle.mmap_rules.proofs.Lists.{each_cut}
 use Rattle.mmap_rules.proofs.TableLess.{is_removed}
 use Rattle.mmap_rules.proofs.Parts.{WholePages, run_of, both, each_left}

@@ -14,7 +14,7 @@ use Rattle.mmap_rules.specs.Held.{Held, AreMappings}
 use Rattle.mmap_rules.specs.Copies.{HasSource}
 use Rattle.mmap_rules.specs.Want.{pages_for}
 use Rattle.mmap_rules.specs.Mappings.{page_at, left_of}
-use Rattle.mmap_rules.specs.Sides.{Freed, NameRegions, unmapped}
+use Rattle.mmap_rules.specs.MapState.{Freed, NameRegions, unmapped}
 use Rattle.mmap_rules.proofs.TableLess.{is_removed}
 use Rattle.mmap_rules.proofs.Mapped.{mapped_cut, mapped_less}
 use Rattle.mmap_rules.proofs.Parts.{Cuts, left_mapped}

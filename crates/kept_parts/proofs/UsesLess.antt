@@ -7,7 +7,7 @@ use Rattle.nommu_regions.specs.declared.region.Region.{Region}
 use Rattle.nommu_regions.specs.declared.region.Source.TheVariants.{Own}
 use Rattle.mmap_rules.specs.declared.mapping.Mapping.{Mapping}
 use Rattle.mmap_rules.specs.Held.{Held, released}
-use Rattle.mmap_rules.specs.Sides.{NameRegions}
+use Rattle.mmap_rules.specs.MapState.{NameRegions}
 use Rattle.mmap_rules.proofs.NamesLess.{others, count_others}
 use Rattle.kept_parts.specs.Kept.{Kept}
 use Rattle.kept_parts.specs.Regular.{Regular, named_in, uses_in}

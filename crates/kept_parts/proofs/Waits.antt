@@ -32,7 +32,7 @@ use Rattle.machine_world.proofs.Chains.{chains_stopped}
 use Rattle.file_calls.specs.declared.call.Call.{Call}
 use Rattle.file_calls.specs.declared.outcome.Outcome.{Outcome as Output}
 use Rattle.file_calls.specs.declared.outcome.Then.TheVariants.{Nothing}
-use Rattle.file_calls.specs.Calls.{after, written_of}
+use Rattle.file_calls.specs.Calls.{after, got_of}
 use Rattle.kept_parts.specs.declared.task.Task.{Task}
 use Rattle.kept_parts.specs.declared.effect.Effect.TheVariants.{Answer}
 use Rattle.kept_parts.specs.declared.served.Served.{Served}
@@ -43,7 +43,7 @@ use Rattle.kept_parts.specs.Stands.{About, later, process_of, world_of}
 use Rattle.call_bytes.specs.Puts.{IsRange}
 use Rattle.kept_parts.specs.Families.{info_of}
 use Rattle.kept_parts.specs.Serves.{Went, Serves, Answered}
-use Rattle.kept_parts.specs.Calls.{IsCall, ask_in, given, reply_of}
+use Rattle.kept_parts.specs.Calls.{IsCall, ask_in, output_reply, reply_of}
 use Rattle.kept_parts.proofs.Families.{has_child_is, state_is, found_is, own_pid, state_ready}
 
 -- ---- who called lives on
@@ -223,14 +223,14 @@ module _ (w : World) (a : Ask) (ended : List Ended) (r : Reply) where
 -- ---- a process is told of its children
 
 module _ (a : About) (k : Kept) (e : Entry Task) (h : Held) (call : Call) (is : IsCall e call) (who : Who) (t : Waited) (o : Output)
-    (tells : looked k.procs call.pid who false ≡ Ok t) (zero_is : o.value ≡ 0) (got_is : written_of o ≡ info_at (slice_index call.args 2) (info_of t)) (then_is : o.then ≡ Nothing) where
+    (tells : looked k.procs call.pid who false ≡ Ok t) (zero_is : o.value ≡ 0) (got_is : got_of o ≡ info_at (slice_index call.args 2) (info_of t)) (then_is : o.then ≡ Nothing) where
   abbrev ask : Ask
   ask = ask_in a k e h call
 
   abbrev left : List Ended
   left = left_of e.pid who t k.procs.ended
 
-  pub given_is : replies (given ask o) ≡ gives ask 0 (info_at (arg ask 2) (info_of t)) ask.rest
+  pub given_is : replies (output_reply ask o) ≡ gives ask 0 (info_at (arg ask 2) (info_of t)) ask.rest
   given_is = λ i. replies (record {
     value = zero_is i;
     got = (got_is ∙ ap (λ (args : List ℕ). info_at (slice_index args 2) (info_of t)) is.args) i;
@@ -239,7 +239,7 @@ module _ (a : About) (k : Kept) (e : Entry Task) (h : Held) (call : Call) (is : 
     over = false;
   })
 
-  reaped_is : reaped (world_of a k) ask who (Ok t) ≡ answered (record (world_of a k) { ended = left }) ask (replies (given ask o))
+  reaped_is : reaped (world_of a k) ask who (Ok t) ≡ answered (record (world_of a k) { ended = left }) ask (replies (output_reply ask o))
   unfolding world_of
   reaped_is = by_told t (looked_told k.procs call.pid who t tells) ∙ ap (answered (record (world_of a k) { ended = left }) ask) (sym given_is)
     where
@@ -250,11 +250,11 @@ module _ (a : About) (k : Kept) (e : Entry Task) (h : Held) (call : Call) (is : 
       by_told Waits told = absurd told
 
   -- it strays, or finds no room
-  pub untold_serves : (new : Kept) (s : Served) → s ≢ result.Replied → Answered a (answered (world_of a k) ask (replies (given ask o))) k new call.pid s →
+  pub untold_serves : (new : Kept) (s : Served) → s ≢ result.Replied → Answered a (answered (world_of a k) ask (replies (output_reply ask o))) k new call.pid s →
       Answered a (reaped (world_of a k) ask who (Ok t)) k new call.pid s
   untold_serves new s other serves =
       subst (λ (x : Outcome). Answered a x k new call.pid s) (sym reaped_is)
-      (answered_beside (world_of a k) ask left (given ask o) (λ x y. Answered a x k new call.pid s → Answered a y k new call.pid s)
+      (answered_beside (world_of a k) ask left (output_reply ask o) (λ x y. Answered a x k new call.pid s → Answered a y k new call.pid s)
       (λ now trace over behind was. absurd (never s trace over other was.1)) (λ access was. was) (λ was. was) serves)
     where
       never : (x : Served) (trace : Trace) → trace.over ≡ false → x ≢ result.Replied → Went trace new call.pid x → ⊥
@@ -270,7 +270,7 @@ module _ (a : About) (k : Kept) (e : Entry Task) (h : Held) (call : Call) (is : 
     abbrev now_told : Kept
     now_told = record mid { procs = with_wait mid.procs call.pid who answer }
 
-    module _ (now : World) (behind : Behind (world_of a k) ask left (given ask o) now) (was : now ≡ world_of (later 1 a) mid) where
+    module _ (now : World) (behind : Behind (world_of a k) ask left (output_reply ask o) now) (was : now ≡ world_of (later 1 a) mid) where
       same_ended : k.procs.ended ≡ mid.procs.ended
       unfolding world_of
       same_ended = sym behind.0 ∙ ap (λ (x : World). x.ended) was
@@ -296,11 +296,11 @@ module _ (a : About) (k : Kept) (e : Entry Task) (h : Held) (call : Call) (is : 
       pub told_lives : Lives mid.procs call.pid → Lives now_told.procs call.pid
       told_lives lives = subst (λ (s : Listed Task). Lives s call.pid) (sym told_procs) lives
 
-    pub told_serves : Answered a (answered (world_of a k) ask (replies (given ask o))) k mid call.pid result.Replied →
+    pub told_serves : Answered a (answered (world_of a k) ask (replies (output_reply ask o))) k mid call.pid result.Replied →
         Answered a (reaped (world_of a k) ask who (Ok t)) k now_told call.pid result.Replied
     told_serves serves =
         subst (λ (x : Outcome). Answered a x k now_told call.pid result.Replied) (sym reaped_is)
-        (answered_beside (world_of a k) ask left (given ask o) (λ x y. Answered a x k mid call.pid result.Replied → Answered a y k now_told call.pid result.Replied)
+        (answered_beside (world_of a k) ask left (output_reply ask o) (λ x y. Answered a x k mid call.pid result.Replied → Answered a y k now_told call.pid result.Replied)
         (λ now trace over behind was. (told_world now behind was.0, (was.1.0, was.1.1, told_lives now behind was.0 was.1.2)))
         (λ access was. was) (λ was. was) serves)
 

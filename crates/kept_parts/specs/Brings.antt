@@ -2,7 +2,7 @@
 use Rattle.std.specs.Prelude.{ℕ, ◌*◌, Bool, ◌&&◌, if◌then◌else◌}
 use Rattle.mmap_rules.specs.declared.want.Want.{Want}
 use Rattle.mmap_rules.specs.Space.{page_size}
-use Rattle.machine_world.specs.MapCalls.{pages_of}
+use Rattle.mmap_rules.specs.Copies.{pages_of}
 use Rattle.machine_world.specs.Recordings.{is_recorded}
 use Rattle.kept_parts.specs.Kept.{Kept}
 use Rattle.kept_parts.specs.MapsIn.{is_file}

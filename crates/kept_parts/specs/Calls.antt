@@ -2,7 +2,7 @@
 use Rattle.std.specs.Prelude.{◌≡◌, ℕ, true, false, List, [], ◌∷◌, length, Some, Result, Ok, Err, ⊤, ◌%◌, ◌==◌, Bool, not, ◌&&◌, slice_index, slice_get, slice_set}
 use Rattle.std.specs.declared.alloc.AllocError.{AllocError}
 use Rattle.byte_words.specs.ByteMap.{Bytes}
-use Rattle.call_log.specs.Notes.{Written, CallEntry, Note, call_note, end_note}
+use Rattle.call_log.specs.Notes.{GotRange, CallEntry, Note, call_note, end_note}
 use Rattle.call_log.specs.Sent.{sent}
 use Rattle.call_log.specs.Numbers as numbers
 use Rattle.call_log.specs.declared.how.How.{How}
@@ -21,7 +21,7 @@ use Rattle.machine_world.specs.Asks
 use Rattle.machine_world.specs.Asks.{Ask, Reply, Row, with_files}
 use Rattle.machine_world.specs.Rows.{next_brk}
 use Rattle.machine_world.specs.Event.{number_of, args_of, ask_of, put_got, replied, room_for}
-use Rattle.file_calls.specs.Calls.{with_all, after, written_of}
+use Rattle.file_calls.specs.Calls.{with_all, after, got_of}
 use Rattle.file_calls.specs.declared.call.Call.{Call}
 use Rattle.file_calls.specs.declared.outcome.Outcome.{Outcome}
 use Rattle.kept_parts.specs.declared.task.Task.{Task}
@@ -111,10 +111,10 @@ served_by (Break to) = Replied
 -- ---- what is kept after it
 
 -- the note of a call
-abbrev pub noted_entry : Call → ℕ → List Written → CallEntry
+abbrev pub noted_entry : Call → ℕ → List GotRange → CallEntry
 noted_entry call value got = record { pid = call.pid; call = call.number; args = call.args; sent = call.sent.items; reply = value; got = got }
 
-abbrev pub noted_call : Call → ℕ → List Written → Note
+abbrev pub noted_call : Call → ℕ → List GotRange → Note
 noted_call call value got = call_note (noted_entry call value got)
 
 -- memory, the registers of one process and its space are others
@@ -162,10 +162,10 @@ ChangesParts a old e h call r new (Ok done) = Changed a old e h call r new
 ChangesParts a old e h call r new (Err error) = new ≡ old
 
 -- the reply of a call that gives bytes
-abbrev pub given : Ask → Outcome → Reply
-given a o = record {
+abbrev pub output_reply : Ask → Outcome → Reply
+output_reply a o = record {
   value = o.value;
-  got = written_of o;
+  got = got_of o;
   rest = with_files a.rest (after o.then a.process.table a.rest.files);
   space = a.space;
   over = false;
@@ -173,9 +173,9 @@ given a o = record {
 
 -- the bytes are in its caller's space, and in no other one
 pub record Gave (a : About) (old : Kept) (e : Entry Task) (h : Held) (call : Call) (o : Outcome) (new : Kept) : Type 0 where
-  pub put : put_got (private_bytes old.mem h) (writable_in h.maps) (written_of o) ≡ Ok (private_bytes new.mem h)
+  pub put : put_got (private_bytes old.mem h) (writable_in h.maps) (got_of o) ≡ Ok (private_bytes new.mem h)
   pub others : OthersSame old e.value.space new.mem
-  pub after : new ≡ after_reply old e h call (given (ask_in a old e h call) o) new.mem
+  pub after : new ≡ after_reply old e h call (output_reply (ask_in a old e h call) o) new.mem
 
 abbrev pub Gives : About → Kept → Entry Task → Held → Call → Outcome → Kept → Result ⊤ AllocError → Type 0
 Gives a old e h call o new (Ok done) = Gave a old e h call o new
@@ -183,9 +183,9 @@ Gives a old e h call o new (Err error) = new ≡ old
 
 -- the bytes are in the one memory, whoever owns the places
 pub record GaveIn (a : About) (old : Kept) (e : Entry Task) (h : Held) (call : Call) (o : Outcome) (new : Kept) : Type 0 where
-  pub put : put_got (physical old.mem) (in_pages (length old.regions)) (written_of o) ≡ Ok (physical new.mem)
+  pub put : put_got (physical old.mem) (in_pages (length old.regions)) (got_of o) ≡ Ok (physical new.mem)
   pub len : length new.mem ≡ length old.mem
-  pub after : new ≡ after_reply old e h call (given (ask_in a old e h call) o) new.mem
+  pub after : new ≡ after_reply old e h call (output_reply (ask_in a old e h call) o) new.mem
 
 abbrev pub GivesIn : About → Kept → Entry Task → Held → Call → Outcome → Kept → Result ⊤ AllocError → Type 0
 GivesIn a old e h call o new (Ok done) = GaveIn a old e h call o new

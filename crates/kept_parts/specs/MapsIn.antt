@@ -15,7 +15,7 @@ use Rattle.file_calls.specs.declared.call.Call.{Call}
 use Rattle.mmap_rules.specs.declared.maps.MapFault.{MapFault}
 use Rattle.mmap_rules.specs.declared.maps.MapFault.TheVariants.{Enomem, Memory}
 use Rattle.mmap_rules.specs.Held.{Held, AreMappings}
-use Rattle.mmap_rules.specs.Sides.{sides, mapped, Maps, freed, unmapped, Unmaps}
+use Rattle.mmap_rules.specs.MapState.{map_state, mapped, Maps, freed, unmapped, Unmaps}
 
 -- munmap and mmap2
 abbrev pub is_mapping : ℕ → Bool
@@ -36,7 +36,7 @@ IsAsked call (File pages first write id change) =
 pub record MapsIn (kind : Kind) (bytes : List ℕ) (want : Want) (number : ℕ) (h : Held) (old new : List (Option Held)) (rs now : List Region) (mem after : List ℕ) (result : Result ℕ MapFault) : Type 0 where
   pub held : Held
   pub spaces : new ≡ slice_set old number (Some held)
-  pub maps : Maps (mapped (sides h rs mem) kind bytes want) (sides h rs mem) (sides held now after) result
+  pub maps : Maps (mapped (map_state h rs mem) kind bytes want) (map_state h rs mem) (map_state held now after) result
 
 -- after pages were unmapped in it
 pub record UnmapsIn (addr len number : ℕ) (h : Held) (old new : List (Option Held)) (rs now : List Region) (result : Result ⊤ Errno) : Type 0 where

@@ -7,12 +7,12 @@ ghost use Rattle.page_runs.specs.declared.place.Kind.{Kind};
 ghost use Rattle.mem_files.specs.Inodes.{bytes_of};
 ghost use Rattle.mmap_rules.specs.Held.{Held};
 ghost use Rattle.mmap_rules.specs.Want.{wanted, AsksPages};
-ghost use Rattle.mmap_rules.specs.Copies.{IsKnown};
-ghost use Rattle.mmap_rules.specs.Sides.{Sides, NameRegions, AreFew, file_in};
-ghost use Rattle.mmap_rules.specs.Sides.{mapped as mapped_in};
+ghost use Rattle.mmap_rules.specs.Copies.{IsKnown, wanted_bytes};
+ghost use Rattle.mmap_rules.specs.MapState.{MapState, NameRegions, AreFew, file_in};
+ghost use Rattle.mmap_rules.specs.MapState.{mapped as mapped_in};
 ghost use Rattle.vfork_exec.specs.Procs.{Lives};
 ghost use Rattle.mmap_rules.specs.Mappings.{hit, file_pages};
-ghost use Rattle.machine_world.specs.MapCalls.{first_bytes, mapped, unmaps};
+ghost use Rattle.machine_world.specs.MapCalls.{mapped, unmaps};
 ghost use Rattle.machine_world.specs.Recordings.{is_recorded, with_brought};
 ghost use Rattle.kept_parts.specs.Regular.{HasSpace};
 ghost use Rattle.machine_world.specs.Event.{answered};
@@ -123,8 +123,8 @@ fn bring(
     requires few { with_brought recording.old.brought 0 < 2 ^ 63 }
     requires want { AsksPages want }
     ensures same { OnErr result (recording.new ≡ recording.old) }
-    ensures brings { IfOk result (λ done. recording.new ≡ record recording.old { brought = recording.old.brought ++ (if done then first_bytes tree.now want ∷ [] else []) }) }
-    ensures done { IfOk result (λ done. (s : Sides) → (kind : Kind) → (bytes : List ℕ) → s.regions ≡ regions.now.regions →
+    ensures brings { IfOk result (λ done. recording.new ≡ record recording.old { brought = recording.old.brought ++ (if done then wanted_bytes tree.now want ∷ [] else []) }) }
+    ensures done { IfOk result (λ done. (s : MapState) → (kind : Kind) → (bytes : List ℕ) → s.regions ≡ regions.now.regions →
         done ≡ (is_recorded recording.old space && is_file want && is_some (mapped_in s kind bytes want))) }
 {
     let Want::File {

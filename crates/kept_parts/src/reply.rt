@@ -3,7 +3,7 @@
 ghost use Rattle.std.specs.Prelude.{◌≡◌, ◌==◌, ◌-◌, ◌≤◌, ◌∷◌, All, None, Some, false, true, length, map, slice_get, slice_set};
 ghost use Rattle.call_log.specs.Notes.{has_room, weight_of};
 ghost use Rattle.call_log.specs.Numbers as numbers;
-ghost use Rattle.call_log.specs.Values.{written_value};
+ghost use Rattle.call_log.specs.Values.{got_value};
 ghost use Rattle.mmap_rules.specs.Held.{Held, next_brk};
 ghost use Rattle.mmap_rules.specs.Space.{writable_in};
 ghost use Rattle.vfork_exec.specs.declared.entry.Entry.{Entry as Listed};
@@ -11,14 +11,14 @@ ghost use Rattle.vfork_exec.specs.Procs.{Lives, value_at, with_value_at};
 ghost use Rattle.physical_turns.specs.Physical.{has_stray};
 ghost use Rattle.machine_world.specs.Rows.{row};
 ghost use Rattle.machine_world.specs.Event.{replied};
-ghost use Rattle.file_calls.specs.Calls.{IsChange, DoesNotWait, written_of};
+ghost use Rattle.file_calls.specs.Calls.{IsChange, DoesNotWait, got_of};
 ghost use Rattle.file_calls.specs.Outcomes.{CanTake, HasEnds};
 ghost use Rattle.kept_parts.specs.declared.task.Task.{Task};
 ghost use Rattle.kept_parts.specs.Copies.{HoldsFiles};
 ghost use Rattle.kept_parts.specs.Regular.{HasSpace};
 ghost use Rattle.kept_parts.specs.Stands.{About};
 ghost use Rattle.kept_parts.specs.Recorded.{room_beside};
-ghost use Rattle.call_bytes.specs.Puts.{first_stray, IsRange};
+ghost use Rattle.call_bytes.specs.Puts.{stray_range, IsRange};
 ghost use Rattle.region_watch.specs.Private.{in_pages};
 ghost use Rattle.kept_parts.specs.Calls.{LivesIn, Caller, asked_by, maps_by, value_of, brk_of, noted_call, RepliesBy, ChangesParts, Gives, GivesIn};
 
@@ -74,9 +74,9 @@ fn settle(spaces: &mut [Option<Space>], number: u32, effect: Effect) -> u32
 pub(crate) fn finish(procs: &mut Procs<Task>, log: &mut Log, call: Call, value: u32, got: Vec<Got>)
     requires lives { Lives procs.old call.pid }
     requires spare { 1 ≤ log.old.spare }
-    requires room { has_room log.old.notes (weight_of call.sent.items (map written_value got.items)) ≡ true }
+    requires room { has_room log.old.notes (weight_of call.sent.items (map got_value got.items)) ≡ true }
     ensures procs { (t : Task) → value_at procs.old call.pid ≡ Some t → procs.new ≡ with_value_at procs.old call.pid (record t { regs = replied t.regs value }) }
-    ensures notes { log.new.notes ≡ noted_call call value (map written_value got.items) ∷ log.old.notes }
+    ensures notes { log.new.notes ≡ noted_call call value (map got_value got.items) ∷ log.old.notes }
     ensures spare { log.new.spare ≡ log.old.spare - 1 }
 {
     let task = procs.get_mut(call.pid);
@@ -142,17 +142,17 @@ impl KeptParts {
     /// Gives a call its reply and its bytes, which all lie in memory, and notes it. There is room for its note, and it is no mmap2.
     pub fn give(&mut self, call: Call, outcome: Outcome) -> Result<(), AllocError>
         requires lives { Lives self.old.procs call.pid }
-        requires room { room_beside self.old (weight_of call.sent.items (written_of outcome)) ≡ true }
+        requires room { room_beside self.old (weight_of call.sent.items (got_of outcome)) ≡ true }
         requires plain { (call.number == numbers.mmap2) ≡ false }
         requires fits { CanTake self.old.files outcome.then }
         requires ends { HasEnds self.old.files call.table outcome.then }
-        requires ranges { All IsRange (written_of outcome) }
-        requires inside { first_stray (in_pages (length self.old.regions)) (written_of outcome) ≡ None }
-        requires kept { has_stray self.old.notes ≡ false → (e : Listed Task) → (h : Held) → LivesIn self.old call.pid e h → first_stray (writable_in h.maps) (written_of outcome) ≡ None }
-        ensures gives { (a : About) → (c : Caller self.old call) → first_stray (writable_in c.held.maps) (written_of outcome) ≡ None →
+        requires ranges { All IsRange (got_of outcome) }
+        requires inside { stray_range (in_pages (length self.old.regions)) (got_of outcome) ≡ None }
+        requires kept { has_stray self.old.notes ≡ false → (e : Listed Task) → (h : Held) → LivesIn self.old call.pid e h → stray_range (writable_in h.maps) (got_of outcome) ≡ None }
+        ensures gives { (a : About) → (c : Caller self.old call) → stray_range (writable_in c.held.maps) (got_of outcome) ≡ None →
             Gives a self.old c.entry c.held call outcome self.new result }
         ensures memory { (a : About) → (c : Caller self.old call) → GivesIn a self.old c.entry c.held call outcome self.new result }
-        ensures holds { (e : Listed Task) → (h : Held) → LivesIn self.old call.pid e h → first_stray (writable_in h.maps) (written_of outcome) ≡ None → HoldsFiles self.old → HoldsFiles self.new }
+        ensures holds { (e : Listed Task) → (h : Held) → LivesIn self.old call.pid e h → stray_range (writable_in h.maps) (got_of outcome) ≡ None → HoldsFiles self.old → HoldsFiles self.new }
         ensures lives { Lives self.new.procs call.pid }
     {
         self.log.reserve(1)?;

@@ -10,7 +10,7 @@ use Rattle.mmap_rules.specs.Space.{Space, writable_in}
 use Rattle.call_log.specs.declared.how.How.TheVariants.{Exit, Signal}
 use Rattle.call_log.specs.declared.errno.Errno.{Errno}
 use Rattle.call_log.specs.Errno.{refusal}
-use Rattle.call_log.specs.Notes.{Written, call_note, stray_note, weight_of}
+use Rattle.call_log.specs.Notes.{GotRange, call_note, stray_note, weight_of}
 use Rattle.call_log.specs.Strings.{ProgramStrings, program_strings}
 use Rattle.call_log.specs.Sent.{Span, has_zero, sent}
 use Rattle.flat_loader.specs.Original.{block_pages}
@@ -36,7 +36,7 @@ use Rattle.machine_world.specs.FamilyCalls.{who_of, waitid_fault, child_info, no
 use Rattle.machine_world.specs.Rows.{row}
 use Rattle.machine_world.specs.Recordings.{room_in}
 use Rattle.machine_world.specs.Event.{Trace, Outcome, went, strays, full, idle, with_space, with_state, counted, counted_in, noted, ended, stepped, trapped, number_of, args_of, replied, put_got, ask_of, entry_of, item_of, plain_item, replied_world, room_for, served, put, waited, answered, exit_code, exited, is_exit, reaped, told_in, waitid_behind, waitid, with_child, forked, cloned, with_exec, load_of, executed, exec_at, exec_program, exec_strings, exec, classed, asked, answer, awake, settled, effect, in_space, by_process, at_process, event}
-use Rattle.machine_world.specs.Turns.{Walk, End, seen_of, stays_at, traced, turned, turn, going_on, quantum_turn, turns}
+use Rattle.machine_world.specs.Turns.{Walk, End, seen_of, remains_at, traced, turned, turn, going_on, quantum_turn, turns}
 use Rattle.machine_world.proofs.Kept.{Answers}
 
 -- ---- an outcome
@@ -88,7 +88,7 @@ module _ (P : World → Trace → Type 0) (Q : Rest → Type 0) (w : World) (a :
   by_put ended r (Ok m) holds = by_served ended r m holds
   by_put ended r (Err span) holds = tt
 
-  by_gives : (ended : List Ended) (value : ℕ) (got : List Written) → Went P (answered (record w { ended = ended }) a (gives a value got a.rest))
+  by_gives : (ended : List Ended) (value : ℕ) (got : List GotRange) → Went P (answered (record w { ended = ended }) a (gives a value got a.rest))
   by_gives ended value got =
       by_put ended (record { value = value; got = got; rest = a.rest; space = a.space; over = false }) (put_got a.space.bytes (writable_in a.space.maps) got) same
 
@@ -213,7 +213,7 @@ module _ (P : World → Type 0) (events : (w : World) (pid : ℕ) → P w → Ke
   by_turned : (more : World → Walk) (w : World) (pid : ℕ) (o : Outcome) → P w → Keeps P o → ((v : World) → P v → P (more v).world) → P (turned more w pid o).world
   by_turned more w pid (went now t) h kept on = over t.over
     where
-      over : (b : Bool) → P (traced t (if b then stays_at now None else more now)).world
+      over : (b : Bool) → P (traced t (if b then remains_at now None else more now)).world
       over true = kept
       over false = on now kept
   by_turned more w pid (strays access) h kept on = strayed w pid access h

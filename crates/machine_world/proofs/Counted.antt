@@ -159,7 +159,7 @@ with_node fs id c none =
       uses = b.uses;
       used = b.used;
       holds = λ k. held k (cases_eq k id);
-      stays = λ k. stays k (cases_eq k id);
+      remains = λ k. stays k (cases_eq k id);
       whole = b.whole;
       read_ends = b.read_ends;
       write_ends = b.write_ends;
@@ -177,7 +177,7 @@ with_node fs id c none =
 
     stays : (k : ℕ) → (k ≡ id) ⊎ (k ≡ id → ⊥) → Stays (inode_at (put_at a_file c.nodes id) k)
     stays k (inl e) = subst (λ (j : ℕ). Stays (inode_at (put_at a_file c.nodes id) j)) (sym e) (subst Stays (sym (put_there a_file c.nodes id)) refl)
-    stays k (inr other) = subst Stays (sym (put_other a_file c.nodes id k other)) (c.counts.stays k)
+    stays k (inr other) = subst Stays (sym (put_other a_file c.nodes id k other)) (c.counts.remains k)
 
 -- the counts are exact over nodes among which this one is
 pub record HasNode (fs : OpenFiles) (id : ℕ) : Type 0 where

@@ -4,7 +4,7 @@ use Rattle.std.specs.Prelude.{replicate, codes, Option}
 use Rattle.byte_words.specs.Pieces.{pieces}
 use Rattle.page_runs.specs.declared.place.Kind.TheVariants.{First}
 use Rattle.call_log.specs.Errno.{refusal}
-use Rattle.call_log.specs.Notes.{Written}
+use Rattle.call_log.specs.Notes.{GotRange}
 use Rattle.mem_files.specs.Inodes.{Inodes, file, folder, new_inode, bytes_of}
 use Rattle.mem_files.specs.Paths.{names, is_too_long, walked, place_of}
 use Rattle.mem_files.specs.Changes.{held, written}
@@ -47,7 +47,7 @@ ask r number args sent = record {
 -- what a call is answered and gives
 pub record Seen : Type 0 where
   pub value : ℕ
-  pub got : List Written
+  pub got : List GotRange
 
 abbrev pub seen : Row → Option Seen
 seen (replies r) = Some (record { value = r.value; got = r.got })

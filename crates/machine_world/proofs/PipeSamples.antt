@@ -23,7 +23,7 @@ use Rattle.flat_loader.specs.Frame.{frame_len, frame, frame_start, frame_fits}
 use Rattle.flat_loader.specs.Begin.{begin_space, begin_regs}
 use Rattle.quantum_sched.specs.Picked.{picked}
 use Rattle.vfork_exec.specs.Keyed.{find, change}
-use Rattle.call_log.specs.Notes.{Written, call_note, has_room}
+use Rattle.call_log.specs.Notes.{GotRange, call_note, has_room}
 use Rattle.fd_tables.specs.Files.{view, two_free}
 use Rattle.fd_tables.specs.Pipes.{pipe_view, pipe_bytes, pipe_taken}
 use Rattle.fd_tables.specs.Changes.{with_table, piped}
@@ -61,7 +61,7 @@ reader = record {
 abbrev booted : Result World BootFault
 booted = boot (rest_of 4 (reader ∷ [])) (start 3 (codes "/p") ∷ [])
 
-abbrev made_pipe : Written
+abbrev made_pipe : GotRange
 made_pipe = record { addr = 0x8000_1fd0; bytes = 3 ∷ 0 ∷ 0 ∷ 0 ∷ 4 ∷ 0 ∷ 0 ∷ 0 ∷ [] }
 
 -- the read waits, and nobody else lives

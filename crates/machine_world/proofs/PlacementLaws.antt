@@ -7,8 +7,9 @@ use Rattle.mmap_rules.specs.declared.want.Want.{Want}
 use Rattle.mmap_rules.specs.declared.want.Want.TheVariants.{Anon, File}
 use Rattle.mmap_rules.specs.Held.{page_address}
 use Rattle.mmap_rules.specs.Want.{wanted}
+use Rattle.mmap_rules.specs.Copies.{wanted_bytes}
 use Rattle.machine_world.specs.Asks.{Ask, arg, leaves, with_ok}
-use Rattle.machine_world.specs.MapCalls.{file_side, in_copy, own_run, with_mapping, first_bytes, maps, or_own, mapped, mmap2_row}
+use Rattle.machine_world.specs.MapCalls.{file_side, in_copy, own_run, with_mapping, maps, or_own, mapped, mmap2_row}
 use Rattle.machine_world.specs.Rows.{row}
 use Rattle.machine_world.specs.Boot.{placed, fitting, located, started}
 use Rattle.machine_world.specs.Event.{exec_strings, exec_program, exec_fitting, exec_at, exec}
@@ -36,7 +37,7 @@ module _ (a : Ask) (want : Want) (number : a.number ≡ 222) (asks : wanted (arg
     shared = λ m copy. by_choice (Some m) (placed_page a want) copy refl;
     own = λ page none at.
         by_choice None (Some page) none at
-        ∙ ap (λ (addr : ℕ). leaves a addr (with_mapping a.space (own_run want page) (first_bytes a.rest.tree want))) (own_address want page);
+        ∙ ap (λ (addr : ℕ). leaves a addr (with_mapping a.space (own_run want page) (wanted_bytes a.rest.tree want))) (own_address want page);
     full = λ none at. by_choice None None none at;
   }
 

@@ -4,7 +4,7 @@ use Rattle.quantum_sched.specs.declared.Quantum.{Quantum}
 use Rattle.quantum_sched.specs.Picked.{picked}
 use Rattle.machine_world.specs.World.{World}
 use Rattle.machine_world.specs.Families.{ready_pids}
-use Rattle.machine_world.specs.Turns.{End, Walk, stays_at, turn, turns, walked, going_on, none_runs, quantum_turn, last_end}
+use Rattle.machine_world.specs.Turns.{End, Walk, remains_at, turn, turns, walked, going_on, none_runs, quantum_turn, last_end}
 use Rattle.machine_world.specs.Courses.{Comes}
 use Rattle.machine_world.proofs.TurnLaws.{walked_more}
 
@@ -27,7 +27,7 @@ module _ (q : Quantum) (w : World) where
   turns_next qs pid is = ap (quantum_turn (turns qs) w q.count) is
 
   -- no process may run
-  pub none_chosen : picked q.pick (ready_pids w.procs) ≡ None → (qs : List Quantum) → turns (q ∷ qs) w ≡ stays_at w (Some (none_runs w))
+  pub none_chosen : picked q.pick (ready_pids w.procs) ≡ None → (qs : List Quantum) → turns (q ∷ qs) w ≡ remains_at w (Some (none_runs w))
   none_chosen is qs = turns_next qs None is
 
   module _ (pid : ℕ) (chosen : picked q.pick (ready_pids w.procs) ≡ Some pid) (walk : Walk) (is : turn q.count pid w ≡ walk) where
@@ -44,7 +44,7 @@ module _ (q : Quantum) (w : World) where
 
 -- ---- no quantum is left
 
-pub none_left : (w : World) → turns [] w ≡ stays_at w (Some (last_end w (ready_pids w.procs)))
+pub none_left : (w : World) → turns [] w ≡ remains_at w (Some (last_end w (ready_pids w.procs)))
 unfolding turns
 none_left w = refl
 

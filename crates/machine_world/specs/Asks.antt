@@ -3,7 +3,7 @@ use Rattle.std.specs.Prelude.{ℕ, Bool, false, List, [], slice_index, Option, S
 use Rattle.call_log.specs.declared.errno.Errno.{Errno}
 use Rattle.call_log.specs.declared.errno.Errno.TheVariants.{Ebadf, Emfile}
 use Rattle.call_log.specs.Errno.{refusal}
-use Rattle.call_log.specs.Notes.{Written}
+use Rattle.call_log.specs.Notes.{GotRange}
 use Rattle.mmap_rules.specs.Space.{Space}
 use Rattle.mem_files.specs.Inodes.{Inodes}
 use Rattle.fd_tables.specs.declared.view.View.{View}
@@ -29,7 +29,7 @@ arg a i = slice_index a.args i
 -- whether the turn ends; or a wait in this state
 pub record Reply : Type 0 where
   pub value : ℕ
-  pub got : List Written
+  pub got : List GotRange
   pub rest : Rest
   pub space : Space
   pub over : Bool
@@ -39,7 +39,7 @@ pub data Row : Type 0 where
   waits : State → Row
 
 -- a reply with bytes, and what is left outside
-abbrev pub gives : Ask → ℕ → List Written → Rest → Row
+abbrev pub gives : Ask → ℕ → List GotRange → Rest → Row
 gives a value got rest = replies (record { value = value; got = got; rest = rest; space = a.space; over = false })
 
 -- a reply, and what is left of the space

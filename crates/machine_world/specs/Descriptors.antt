@@ -3,7 +3,7 @@
 use Rattle.std.specs.Prelude.{ℕ, ◌+◌, ◌-◌, ◌*◌, ◌/◌, ◌^◌, ◌==◌, Bool, false, not, ◌||◌, nat_le, nat_lt, if◌then◌else◌, List, [], ◌∷◌, ◌++◌, length, drop, replicate, Option, Some, None}
 use Rattle.byte_words.specs.ByteMap.{little_bytes}
 use Rattle.call_log.specs.declared.errno.Errno.TheVariants.{Enotdir, Einval, Emfile, Enotty, Espipe}
-use Rattle.call_log.specs.Notes.{Written}
+use Rattle.call_log.specs.Notes.{GotRange}
 use Rattle.mem_files.specs.declared.node.Node.{Node}
 use Rattle.mem_files.specs.declared.node.Node.TheVariants.{Dir, File}
 use Rattle.mem_files.specs.Inodes.{Entry, Inodes, kind_of, size_of, entries_of}
@@ -131,13 +131,13 @@ listing nodes room at (e ∷ es) =
     else record { bytes = []; count = 0 }
 
 -- bytes that are written, if there are any
-abbrev pub written_at : ℕ → List ℕ → List Written
-written_at addr [] = []
-written_at addr (b ∷ bytes) = record { addr = addr; bytes = b ∷ bytes } ∷ []
+abbrev pub got_at : ℕ → List ℕ → List GotRange
+got_at addr [] = []
+got_at addr (b ∷ bytes) = record { addr = addr; bytes = b ∷ bytes } ∷ []
 
 abbrev pub listed : Ask → View → Listing → Row
 listed a v l =
-    gives a (length l.bytes) (written_at (arg a 1) l.bytes) (with_files a.rest (moved a.rest.files (table_of a) (arg a 0) (v.at + l.count)))
+    gives a (length l.bytes) (got_at (arg a 1) l.bytes) (with_files a.rest (moved a.rest.files (table_of a) (arg a 0) (v.at + l.count)))
 
 -- an entry is left, and its record is longer than the room
 abbrev pub is_short : ℕ → List Entry → Bool

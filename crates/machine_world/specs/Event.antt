@@ -12,7 +12,7 @@ use Rattle.call_log.specs.declared.how.How.{How}
 use Rattle.call_log.specs.declared.how.How.TheVariants.{Exit, Signal}
 use Rattle.call_log.specs.declared.errno.Errno.{Errno}
 use Rattle.call_log.specs.declared.errno.Errno.TheVariants.{E2big, Eagain, Enomem, Einval, Enametoolong}
-use Rattle.call_log.specs.Notes.{Written, CallEntry, Note, call_note, load_note, end_note, weight_of}
+use Rattle.call_log.specs.Notes.{GotRange, CallEntry, Note, call_note, load_note, end_note, weight_of}
 use Rattle.call_log.specs.Strings.{ProgramStrings, program_strings}
 use Rattle.call_log.specs.Flags.{has_flag}
 use Rattle.call_log.specs.Sent.{Span, bytes_from, has_zero, sent}
@@ -122,7 +122,7 @@ ask_of w p s bytes = record {
   sent = bytes;
 }
 
-abbrev pub entry_of : Ask → ℕ → List Written → CallEntry
+abbrev pub entry_of : Ask → ℕ → List GotRange → CallEntry
 entry_of a value got = record {
   pid = a.process.pid;
   call = a.number;

@@ -7,7 +7,7 @@ use Rattle.call_log.specs.declared.errno.Errno.{Errno}
 use Rattle.call_log.specs.declared.errno.Errno.TheVariants.{Enoent, Eacces, Einval}
 use Rattle.call_log.specs.declared.how.How.{How}
 use Rattle.call_log.specs.declared.how.How.TheVariants.{Exit, Signal}
-use Rattle.call_log.specs.Notes.{Written}
+use Rattle.call_log.specs.Notes.{GotRange}
 use Rattle.mem_files.specs.Inodes.{program_of}
 use Rattle.mem_files.specs.Paths.{lookup}
 use Rattle.vfork_exec.specs.declared.family.Who.{Who}
@@ -53,7 +53,7 @@ abbrev pub no_info : List ℕ
 no_info = replicate 24 0
 
 -- nothing is written at 0
-abbrev pub info_at : ℕ → List ℕ → List Written
+abbrev pub info_at : ℕ → List ℕ → List GotRange
 info_at at info = if at == 0 then [] else record { addr = at; bytes = info } ∷ []
 
 -- ---- clone(flags, stack)

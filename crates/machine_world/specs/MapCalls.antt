@@ -1,6 +1,6 @@
 -- mmap2 and munmap (Linux, mmap(2), munmap(2); "No-MMU memory mapping support", Documentation/admin-guide/mm/nommu-mmap.rst, in
 -- this project's profile).
-use Rattle.std.specs.Prelude.{ℕ, ◌-◌, ◌*◌, Bool, true, false, nat_le, if◌then◌else◌, List, [], ◌∷◌, ◌++◌, replicate, Option, Some, None, option_map}
+use Rattle.std.specs.Prelude.{ℕ, ◌-◌, Bool, true, false, nat_le, if◌then◌else◌, List, [], ◌∷◌, ◌++◌, Option, Some, None, option_map}
 use Rattle.byte_words.specs.ByteMap.{with_bytes}
 use Rattle.page_runs.specs.declared.place.Kind.{Kind}
 use Rattle.page_runs.specs.declared.run.Run.{Run}
@@ -13,11 +13,12 @@ use Rattle.mmap_rules.specs.declared.want.FileSide.{FileSide}
 use Rattle.mmap_rules.specs.declared.want.FileSide.TheVariants as side
 use Rattle.mmap_rules.specs.declared.want.Want.{Want}
 use Rattle.mmap_rules.specs.declared.want.Want.TheVariants.{Anon, File}
-use Rattle.mmap_rules.specs.Space.{Space, page_size, own_in}
+use Rattle.mmap_rules.specs.Space.{Space, own_in}
 use Rattle.mmap_rules.specs.Want.{wanted}
-use Rattle.mmap_rules.specs.Mappings.{run_mapping, part_mapping, copied_from, file_pages, Hit, hit, without_hit}
+use Rattle.mmap_rules.specs.Mappings.{run_mapping, part_mapping, copied_from, Hit, hit, without_hit}
+use Rattle.mmap_rules.specs.Copies.{wanted_bytes, pages_of}
 use Rattle.region_watch.specs.Private.{only}
-use Rattle.mem_files.specs.Inodes.{Content, file, folder, Inode, Inodes, inode_at, bytes_of}
+use Rattle.mem_files.specs.Inodes.{Content, file, folder, Inode, Inodes, inode_at}
 use Rattle.fd_tables.specs.declared.view.View.{View}
 use Rattle.fd_tables.specs.declared.view.Target.{Target}
 use Rattle.fd_tables.specs.declared.view.Target.TheVariants.{Console, Node, Pipe}
@@ -77,10 +78,6 @@ in_copy spaces (File pages first false id change) = option_map (shared first pag
 
 -- ---- a run of its own
 
-abbrev pub pages_of : Want → ℕ
-pages_of (Anon pages) = pages
-pages_of (File pages first write id change) = pages
-
 -- that begins at a page
 abbrev pub own_run : Want → ℕ → Mapping
 own_run (Anon pages) page = run_mapping page pages true true Own
@@ -93,18 +90,13 @@ in_free_run kind runs want = option_map (own_run want) (first_of runs (place kin
 
 -- ---- mmap2
 
--- zeros, or pages of the file as it is now, with zeros past its end
-abbrev pub first_bytes : Inodes → Want → List ℕ
-first_bytes nodes (Anon pages) = replicate (page_size * pages) 0
-first_bytes nodes (File pages first write id change) = file_pages (bytes_of nodes id) first pages
-
 -- a mapping more, the newest, with these bytes
 abbrev pub with_mapping : Space → Mapping → List ℕ → Space
 with_mapping s m bytes = record s { maps = s.maps ++ m ∷ []; bytes = with_bytes s.bytes m.range.from bytes }
 
 -- ENOMEM where a run of its own is needed and none is long enough
 abbrev pub maps : Ask → Want → Option Mapping → Row
-maps a want (Some m) = leaves a m.range.from (with_mapping a.space m (first_bytes a.rest.tree want))
+maps a want (Some m) = leaves a m.range.from (with_mapping a.space m (wanted_bytes a.rest.tree want))
 maps a want None = refuses a Enomem
 
 abbrev pub or_own : Option Mapping → Option Mapping → Option Mapping

@@ -9,12 +9,13 @@ use Rattle.mmap_rules.specs.declared.mapping.Mapping.{Mapping}
 use Rattle.mmap_rules.specs.declared.want.Want.{Want}
 use Rattle.mmap_rules.specs.Held.{page_address}
 use Rattle.mmap_rules.specs.Want.{wanted}
+use Rattle.mmap_rules.specs.Copies.{wanted_bytes, pages_of}
 use Rattle.flat_loader.specs.Original.{block_pages}
 use Rattle.flat_loader.specs.Frame.{frame_fits}
 use Rattle.machine_world.specs.World.{World}
 use Rattle.machine_world.specs.Free.{free_runs_in, free}
 use Rattle.machine_world.specs.Asks.{Ask, arg, leaves, refuses}
-use Rattle.machine_world.specs.MapCalls.{file_side, in_copy, pages_of, own_run, with_mapping, first_bytes}
+use Rattle.machine_world.specs.MapCalls.{file_side, in_copy, own_run, with_mapping}
 use Rattle.machine_world.specs.PathCalls.{path_of as exec_path}
 use Rattle.machine_world.specs.Rows.{row}
 use Rattle.machine_world.specs.Found.{Found, found, taken, address_of}
@@ -29,9 +30,9 @@ placed_page a want = first_of (free_runs_in a.rest.pages a.spaces) (place a.rest
 -- an mmap2 that asks for this has pages of a copy that is there; or, where none has them, a run that begins at that page; or it is
 -- ENOMEM
 pub record MapsExactly (a : Ask) (want : Want) : Type 0 where
-  pub shared : (m : Mapping) → in_copy a.spaces want ≡ Some m → row a ≡ leaves a m.range.from (with_mapping a.space m (first_bytes a.rest.tree want))
+  pub shared : (m : Mapping) → in_copy a.spaces want ≡ Some m → row a ≡ leaves a m.range.from (with_mapping a.space m (wanted_bytes a.rest.tree want))
   pub own : (page : ℕ) → in_copy a.spaces want ≡ None → placed_page a want ≡ Some page →
-      row a ≡ leaves a (page_address page) (with_mapping a.space (own_run want page) (first_bytes a.rest.tree want))
+      row a ≡ leaves a (page_address page) (with_mapping a.space (own_run want page) (wanted_bytes a.rest.tree want))
   pub full : in_copy a.spaces want ≡ None → placed_page a want ≡ None → row a ≡ refuses a Enomem
 
 abbrev pub MapsAreExact : Type 0

@@ -2,7 +2,7 @@
 use Rattle.std.specs.Prelude.{ℕ, ◌+◌, ◌-◌, ◌*◌, ◌==◌, Bool, not, ◌&&◌, ◌||◌, min, nat_le, nat_lt, if◌then◌else◌, List, [], ◌∷◌, ◌++◌, map, sum, length, take, drop}
 use Rattle.std.specs.List.{range_with_len}
 use Rattle.call_log.specs.declared.errno.Errno.TheVariants.{Ebadf, Eisdir, Einval, Epipe}
-use Rattle.call_log.specs.Notes.{Written}
+use Rattle.call_log.specs.Notes.{GotRange}
 use Rattle.call_log.specs.Sent.{Span, most_moved, most_pieces, piece_at}
 use Rattle.mem_files.specs.declared.node.Node.{Node}
 use Rattle.mem_files.specs.declared.node.Node.TheVariants.{Dir, File}
@@ -21,11 +21,11 @@ use Rattle.machine_world.specs.Asks.{Ask, arg, Row, waits, gives, answers, refus
 -- ---- read and readv
 
 -- bytes filled into ranges in order; none of them is empty
-abbrev pub scattered : List ℕ → List Span → List Written
+abbrev pub scattered : List ℕ → List Span → List GotRange
 scattered bytes [] = []
 scattered bytes (span ∷ spans) = part (take span.len bytes) (scattered (drop span.len bytes) spans)
   where
-    part : List ℕ → List Written → List Written
+    part : List ℕ → List GotRange → List GotRange
     part [] rest = rest
     part (b ∷ front) rest = record { addr = span.addr; bytes = b ∷ front } ∷ rest
 

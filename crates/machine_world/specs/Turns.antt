@@ -37,22 +37,22 @@ seen_kind access.Call = seen.Call
 abbrev pub seen_of : Access → Seen
 seen_of a = record { pc = a.pc; addr = a.addr; len = a.len; kind = seen_kind a.kind }
 
-abbrev pub stays_at : World → Option End → Walk
-stays_at w end = record { world = w; traces = []; end = end }
+abbrev pub remains_at : World → Option End → Walk
+remains_at w end = record { world = w; traces = []; end = end }
 
 abbrev pub traced : Trace → Walk → Walk
 traced t walk = record walk { traces = t ∷ walk.traces }
 
 -- after one event, unless the turn is over, those that are left
 abbrev pub turned : (World → Walk) → World → ℕ → Outcome → Walk
-turned more w pid (went now t) = traced t (if t.over then stays_at now None else more now)
-turned more w pid (strays a) = stays_at (noted (stray_note pid (seen_of a)) w) (Some (stray_at pid a))
-turned more w pid full = stays_at w (Some log_full)
-turned more w pid idle = stays_at w None
+turned more w pid (went now t) = traced t (if t.over then remains_at now None else more now)
+turned more w pid (strays a) = remains_at (noted (stray_note pid (seen_of a)) w) (Some (stray_at pid a))
+turned more w pid full = remains_at w (Some log_full)
+turned more w pid idle = remains_at w None
 
 -- up to n events of one process
 unfoldable pub turn : ℕ → ℕ → World → Walk
-turn zero pid w = stays_at w None
+turn zero pid w = remains_at w None
 turn (suc n) pid w = turned (turn n pid) w pid (event w pid)
 
 -- what has been walked, and what comes behind it where the run goes on
@@ -71,7 +71,7 @@ abbrev pub none_runs : World → End
 none_runs w = if length w.procs == 0 then all_ended else stuck
 
 abbrev pub quantum_turn : (World → Walk) → World → ℕ → Option ℕ → Walk
-quantum_turn more w count None = stays_at w (Some (none_runs w))
+quantum_turn more w count None = remains_at w (Some (none_runs w))
 quantum_turn more w count (Some pid) = going_on more (turn count pid w)
 
 abbrev pub last_end : World → List ℕ → End
@@ -80,5 +80,5 @@ last_end w (pid ∷ pids) = out_of_quanta
 
 -- before each quantum and behind the last one the run stops where no process may run
 unfoldable pub turns : List Quantum → World → Walk
-turns [] w = stays_at w (Some (last_end w (ready_pids w.procs)))
+turns [] w = remains_at w (Some (last_end w (ready_pids w.procs)))
 turns (q ∷ qs) w = quantum_turn (turns qs) w q.count (picked q.pick (ready_pids w.procs))

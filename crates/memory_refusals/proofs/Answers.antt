@@ -2,7 +2,7 @@
 use Rattle.std.proofs.Common.{◌≡◌, Bool, true, false, List, Option, Some, None, Result, Ok, Err}
 use Rattle.std.specs.Prelude.{◌==◌, if◌then◌else◌}
 use Rattle.call_log.specs.declared.errno.Errno.{Errno}
-use Rattle.call_log.specs.Notes.{Written}
+use Rattle.call_log.specs.Notes.{GotRange}
 use Rattle.vfork_exec.specs.declared.family.Who.{Who}
 use Rattle.vfork_exec.specs.declared.family.State.{State}
 use Rattle.vfork_exec.specs.declared.family.State.TheVariants.{Waiting}
@@ -26,7 +26,7 @@ pub record EachAnswer (X : After → Type 0) (p : Physical) (a : Ask) : Type 0 w
   -- exit, clone and execve
   pub calls : X (carried p p.memory (classed p.world a))
   -- waitid: a child that has ended may go from the list
-  pub told : (ended : List Ended) (got : List Written) → X (answered_in (record p { world = record p.world { ended = ended } }) a (gives a 0 got a.rest))
+  pub told : (ended : List Ended) (got : List GotRange) → X (answered_in (record p { world = record p.world { ended = ended } }) a (gives a 0 got a.rest))
   pub waits : (state : State) → X (carried p p.memory (waited p.world a.process state))
   pub full : X (no_room p)
 

@@ -20,7 +20,7 @@ use Rattle.machine_world.proofs.Refused.{is_refused}
 use Rattle.stays_laws.proofs.RowSpaces.{row-mmap2}
 use Rattle.refusal_laws.specs.NoRun.{LacksRunToMap, LacksRunToExec, LacksRun}
 use Rattle.refusal_laws.proofs.Errnos.{same_number}
-use Rattle.physical_turns.specs.Physical.{Physical, after, carried, answered_in, classed_in, first_stray, with_stray, physical_event}
+use Rattle.physical_turns.specs.Physical.{Physical, after, carried, answered_in, classed_in, first_stray_in, with_stray, event_in}
 use Rattle.go_on_laws.specs.Refusals.{ask_in, over_memory}
 use Rattle.go_on_laws.proofs.Refused.{refused_events_leave_memory}
 use Rattle.memory_refusals.specs.Regular.{IsRegularIn}
@@ -72,7 +72,7 @@ module _ (p : Physical) (pid : ℕ) where
   abbrev n : Physical
   n = noted_in p pid
 
-  replies_if : (value : ℕ) (e : CallEntry) (b : Bool) (now : World) (t : Trace) → physical_event p pid ≡ over_memory n (if b then went now t else full) → b ≡ true
+  replies_if : (value : ℕ) (e : CallEntry) (b : Bool) (now : World) (t : Trace) → event_in p pid ≡ over_memory n (if b then went now t else full) → b ≡ true
       → now.notes ≡ call_note e ∷ n.world.notes → e.reply ≡ value → RepliesIn p pid value
   replies_if value e b now t is room notes reply = record {
     entry = e;
@@ -81,8 +81,8 @@ module _ (p : Physical) (pid : ℕ) where
       over = t.over;
       goes = is ∙ ap (λ (c : Bool). over_memory n (if c then went now t else full)) room;
       later = [];
-      earlier = earlier_notes pid (first_stray p pid);
-      notes = notes ∙ ap (λ (ns : List Note). call_note e ∷ ns) (earlier_are p pid (first_stray p pid));
+      earlier = earlier_notes pid (first_stray_in p pid);
+      notes = notes ∙ ap (λ (ns : List Note). call_note e ∷ ns) (earlier_are p pid (first_stray_in p pid));
     };
     reply = reply;
   }

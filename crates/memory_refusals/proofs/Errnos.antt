@@ -26,7 +26,7 @@ use Rattle.refusal_laws.proofs.Errnos.{is_enomem}
 use Rattle.refusal_laws.proofs.EachCall.{EachCall, each_call}
 use Rattle.refusal_laws.proofs.Small.{no_errno}
 use Rattle.refusal_laws.proofs.Refusals.{RefusesRow, IsLow, low_or_refuses}
-use Rattle.physical_turns.specs.Physical.{Physical, in_memory, After, after, no_room, nobody, carried, settled_in, outside, killed, put_in, answered_in, classed_in, asked_in, answer_in, effect_in, in_space, by_process, at_process, next_meaning, carried_out, first_stray, physical_event}
+use Rattle.physical_turns.specs.Physical.{Physical, in_memory, After, after, no_room, nobody, carried, settled_in, outside, killed, put_in, answered_in, classed_in, asked_in, answer_in, effect_in, in_space_in, by_process_in, at_process_in, next_meaning, carried_out, first_stray_in, event_in}
 use Rattle.physical_turns.specs.After.{AfterHas}
 use Rattle.physical_turns.proofs.Moves.{event_in_carried}
 use Rattle.go_on_laws.specs.Refusals.{CallIn, ask_in, over_memory, IsRefusedIn}
@@ -194,16 +194,16 @@ module _ (p : Physical) (h : IsBounded p.world) (pid : ℕ) where
     by_meaning call is = by_sent is (sent (number_of q.regs) (args_of q.regs) p.memory) refl
 
   by_space : (q : Process) → find pid_of pid p.world.procs ≡ Some q → (o : Option LiveSpace) → find id_of q.space p.world.spaces ≡ o
-      → OrPlain p pid (in_space (λ r s. effect_in p r s (next_meaning p r)) q o)
+      → OrPlain p pid (in_space_in (λ r s. effect_in p r s (next_meaning p r)) q o)
   by_space q lives None has = inr tt
   by_space q lives (Some s) has = by_meaning q lives s has (next_meaning p q) refl
 
-  by_found : (o : Option Process) → find pid_of pid p.world.procs ≡ o → OrPlain p pid (by_process p.world.spaces (λ q s. effect_in p q s (next_meaning p q)) o)
+  by_found : (o : Option Process) → find pid_of pid p.world.procs ≡ o → OrPlain p pid (by_process_in p.world.spaces (λ q s. effect_in p q s (next_meaning p q)) o)
   by_found None lives = inr tt
   by_found (Some q) lives = by_space q lives (find id_of q.space p.world.spaces) refl
 
   or_plain : OrPlain p pid (carried_out p pid)
-  unfolding carried_out at_process
+  unfolding carried_out at_process_in
   or_plain = by_found (find pid_of pid p.world.procs) refl
 
 -- ---- its notes
@@ -224,25 +224,25 @@ module _ (p : Physical) (pid : ℕ) (e : CallEntry) (h : NotesCall p pid e) wher
   n = noted_in p pid
 
   -- what holds of each call that the event notes holds of this one
-  of_it : (P : CallEntry → Type 0) → AfterHas (λ now. Adds P n.world.notes now.notes) (physical_event p pid) → P e
+  of_it : (P : CallEntry → Type 0) → AfterHas (λ now. Adds P n.world.notes now.notes) (event_in p pid) → P e
   of_it P added =
       among P p.world.notes h.now.world.notes h.later h.earlier e
-      (adds_stray P p pid (first_stray p pid) h.now.world.notes (subst (AfterHas (λ now. Adds P n.world.notes now.notes)) h.goes added)) h.notes
+      (adds_stray P p pid (first_stray_in p pid) h.now.world.notes (subst (AfterHas (λ now. Adds P n.world.notes now.notes)) h.goes added)) h.notes
 
 -- a call that is noted with an errno as its reply: it is refused, its note is that of the refusal, and the event is the refusal's
 pub record IsItsCall (p : Physical) (pid : ℕ) (e : CallEntry) : Type 0 where
   pub refuses : RefusesCall (noted_in p pid) pid
   pub note : e ≡ entry_of (ask_in (noted_in p pid) pid refuses.call) (refusal refuses.errno) []
-  pub outcome : physical_event p pid ≡ over_memory (noted_in p pid) (refused_outcome (noted_in p pid).world refuses.call.process (ask_in (noted_in p pid) pid refuses.call) refuses.errno)
+  pub outcome : event_in p pid ≡ over_memory (noted_in p pid) (refused_outcome (noted_in p pid).world refuses.call.process (ask_in (noted_in p pid) pid refuses.call) refuses.errno)
 
 pub its_call : (p : Physical) (pid : ℕ) (e : CallEntry) → IsRegularIn p → NotesCall p pid e → is_errno e.reply ≡ true → IsItsCall p pid e
-its_call p pid e r h errno = by (or_plain (noted_in p pid) (bounded_stray p pid (first_stray p pid) r.bounded) pid)
+its_call p pid e r h errno = by (or_plain (noted_in p pid) (bounded_stray p pid (first_stray_in p pid) r.bounded) pid)
   where
     by : OrPlain (noted_in p pid) pid (carried_out (noted_in p pid) pid) → IsItsCall p pid e
     by (inr plain) =
         absurd (false≢true (sym (of_it p pid e h IsPlain (subst (PlainIn (noted_in p pid)) (sym (event_in_carried p pid)) plain)) ∙ errno))
     by (inl c) =
-        let outcome : physical_event p pid ≡ over_memory (noted_in p pid) (refused_outcome (noted_in p pid).world c.call.process (ask_in (noted_in p pid) pid c.call) c.errno) =
+        let outcome : event_in p pid ≡ over_memory (noted_in p pid) (refused_outcome (noted_in p pid).world c.call.process (ask_in (noted_in p pid) pid c.call) c.errno) =
         refused_events_leave_memory p pid r.shown r.unmarked c.call c.errno c.is in
         record {
           refuses = c;

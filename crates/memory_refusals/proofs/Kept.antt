@@ -5,7 +5,7 @@ use Rattle.byte_words.specs.ByteMap.{Bytes}
 use Rattle.rv32im_step.specs.declared.access.Access.{Access}
 use Rattle.rv32im_step.specs.Meaning.{Meaning, next, call, trap, refused}
 use Rattle.call_log.specs.Errno.{refusal}
-use Rattle.call_log.specs.Notes.{Written}
+use Rattle.call_log.specs.Notes.{GotRange}
 use Rattle.call_log.specs.Sent.{Span, sent}
 use Rattle.vfork_exec.specs.declared.family.State.{State}
 use Rattle.vfork_exec.specs.declared.family.Ended.{Ended}
@@ -22,7 +22,7 @@ use Rattle.refusal_laws.proofs.Lists.{each_map}
 use Rattle.refusal_laws.proofs.Bounded.{bounded}
 use Rattle.refusal_laws.proofs.Bounds.{AreBounded, InMemory, LeavesInMemory, parents_roused, keeps_stepped, keeps_trapped, keeps_waited, keeps_served, own, row_in_memory, keeps_classed}
 use Rattle.refusal_laws.proofs.Runs.{boots_are_regular}
-use Rattle.physical_turns.specs.Physical.{Physical, in_memory, shown_space, showing, laid_behind, After, after, no_room, nobody, carried, settled_in, outside as outside_memory, killed, put_in, answered_in, asked_in, answer_in, effect_in, in_space, by_process, at_process, next_meaning, carried_out, first_stray, with_stray, physical_event, first_memory, opening}
+use Rattle.physical_turns.specs.Physical.{Physical, in_memory, shown_space, showing, laid_behind, After, after, no_room, nobody, carried, settled_in, outside as outside_memory, killed, put_in, answered_in, asked_in, answer_in, effect_in, in_space_in, by_process_in, at_process_in, next_meaning, carried_out, first_stray_in, with_stray, event_in, first_memory, opening_in}
 use Rattle.physical_turns.specs.Courses.{IsShown}
 use Rattle.physical_turns.specs.After.{AfterIs, AfterHas}
 use Rattle.physical_turns.proofs.ByTurnsIn.{by_turn_in, by_run_in}
@@ -138,7 +138,7 @@ module _ (p : Physical) (h : IsBounded p.world) (pid : ℕ) (q : Process) (lives
     bounded_answered (replies r) left is = bounded_put r left is (put_got p.memory (in_memory p.world) r.got)
     bounded_answered (waits state) left is = bounded_waited state
 
-    bounded_gives : (value : ℕ) (got : List Written) → AfterHas IsBounded (answered_in p a (gives a value got p.world.rest))
+    bounded_gives : (value : ℕ) (got : List GotRange) → AfterHas IsBounded (answered_in p a (gives a value got p.world.rest))
     bounded_gives value got = bounded_answered (gives a value got p.world.rest) (outside p.world (tidy p.world h)) (own p.world h pid q lives s has)
 
 -- ---- an event
@@ -177,21 +177,21 @@ module _ (p : Physical) (h : IsBounded p.world) (pid : ℕ) where
     bounded_effect (refused access) = bounded_settled (killed p q outside_memory) (bounded_killed p h pid q lives s has outside_memory)
 
   bounded_space : (q : Process) → find pid_of pid p.world.procs ≡ Some q → (o : Option LiveSpace) → find id_of q.space p.world.spaces ≡ o
-      → AfterHas IsBounded (in_space (λ r s. effect_in p r s (next_meaning p r)) q o)
+      → AfterHas IsBounded (in_space_in (λ r s. effect_in p r s (next_meaning p r)) q o)
   bounded_space q lives None has = tt
   bounded_space q lives (Some s) has = bounded_effect q lives s has (next_meaning p q)
 
-  bounded_found : (o : Option Process) → find pid_of pid p.world.procs ≡ o → AfterHas IsBounded (by_process p.world.spaces (λ q s. effect_in p q s (next_meaning p q)) o)
+  bounded_found : (o : Option Process) → find pid_of pid p.world.procs ≡ o → AfterHas IsBounded (by_process_in p.world.spaces (λ q s. effect_in p q s (next_meaning p q)) o)
   bounded_found None lives = tt
   bounded_found (Some q) lives = bounded_space q lives (find id_of q.space p.world.spaces) refl
 
   bounded_carried_out : AfterHas IsBounded (carried_out p pid)
-  unfolding carried_out at_process
+  unfolding carried_out at_process_in
   bounded_carried_out = bounded_found (find pid_of pid p.world.procs) refl
 
-bounded_event : (p : Physical) (pid : ℕ) → IsBounded p.world → AfterHas IsBounded (physical_event p pid)
-unfolding physical_event
-bounded_event p pid h = bounded_carried_out (with_stray pid (first_stray p pid) p) (bounded_stray p pid (first_stray p pid) h) pid
+bounded_event : (p : Physical) (pid : ℕ) → IsBounded p.world → AfterHas IsBounded (event_in p pid)
+unfolding event_in
+bounded_event p pid h = bounded_carried_out (with_stray pid (first_stray_in p pid) p) (bounded_stray p pid (first_stray_in p pid) h) pid
 
 -- ---- with what spaces show, and no mark; so turns and runs
 
@@ -201,7 +201,7 @@ regular_after (no_room now) shown unmarked bounds = record { shown = shown; unma
 regular_after nobody shown unmarked bounds = tt
 
 pub events_keep_regular_in : EventsKeepRegularIn
-events_keep_regular_in p pid r = regular_after (physical_event p pid) (events_show p pid r.shown) (events_have_no_mark p pid r.unmarked) (bounded_event p pid r.bounded)
+events_keep_regular_in p pid r = regular_after (event_in p pid) (events_show p pid r.shown) (events_have_no_mark p pid r.unmarked) (bounded_event p pid r.bounded)
 
 pub turns_keep_regular_in : TurnsKeepRegularIn
 turns_keep_regular_in = by_turn_in IsRegularIn events_keep_regular_in
@@ -209,8 +209,8 @@ turns_keep_regular_in = by_turn_in IsRegularIn events_keep_regular_in
 pub runs_keep_regular_in : RunsKeepRegularIn
 runs_keep_regular_in = by_run_in IsRegularIn events_keep_regular_in
 
-bounded_opening : (headers : List (List ℕ)) (w : World) → IsBounded w → IsBounded (opening headers w).world
-unfolding opening
+bounded_opening : (headers : List (List ℕ)) (w : World) → IsBounded w → IsBounded (opening_in headers w).world
+unfolding opening_in
 bounded_opening headers w h = bounded_showing (first_memory headers w) w h
 
 pub boots_are_regular_in : BootsAreRegularIn

@@ -6,7 +6,7 @@ use Rattle.call_log.specs.Notes.{CallEntry, Note, call_note}
 use Rattle.flat_loader.specs.Alone.{is_errno}
 use Rattle.machine_world.specs.Event.{entry_of}
 use Rattle.machine_world.specs.Laws.{refused_outcome}
-use Rattle.physical_turns.specs.Physical.{Physical, after, first_stray, with_stray, physical_event}
+use Rattle.physical_turns.specs.Physical.{Physical, after, first_stray_in, with_stray, event_in}
 use Rattle.go_on_laws.specs.Refusals.{CallIn, ask_in, over_memory, IsRefusedIn}
 use Rattle.memory_refusals.specs.Regular.{IsRegularIn}
 
@@ -14,14 +14,14 @@ use Rattle.memory_refusals.specs.Regular.{IsRegularIn}
 pub record NotesCall (p : Physical) (pid : ℕ) (e : CallEntry) : Type 0 where
   pub now : Physical
   pub over : Bool
-  pub goes : physical_event p pid ≡ after now over
+  pub goes : event_in p pid ≡ after now over
   pub later : List Note
   pub earlier : List Note
   pub notes : now.world.notes ≡ later ++ call_note e ∷ earlier ++ p.world.notes
 
 -- with the run's first stray access noted, if the event has it
 abbrev pub noted_in : Physical → ℕ → Physical
-noted_in p pid = with_stray pid (first_stray p pid) p
+noted_in p pid = with_stray pid (first_stray_in p pid) p
 
 -- the call is refused, and the note is that of this refusal: the event changes the caller's a0 and pc, the notes and the counts of events,
 -- and nothing else
@@ -30,7 +30,7 @@ pub record IsRefusedCall (p : Physical) (pid : ℕ) (e : CallEntry) : Type 0 whe
   pub errno : Errno
   pub note : e ≡ entry_of (ask_in (noted_in p pid) pid call) (refusal errno) []
   pub refused : IsRefusedIn (noted_in p pid) pid call errno
-  pub outcome : physical_event p pid ≡ over_memory (noted_in p pid) (refused_outcome (noted_in p pid).world call.process (ask_in (noted_in p pid) pid call) errno)
+  pub outcome : event_in p pid ≡ over_memory (noted_in p pid) (refused_outcome (noted_in p pid).world call.process (ask_in (noted_in p pid) pid call) errno)
 
 -- each call that is noted with an errno as its reply
 abbrev pub ErrnosAreRefusedIn : Type 0

@@ -7,7 +7,7 @@ use Rattle.machine_world.specs.World.{Rest, World}
 use Rattle.machine_world.specs.Boot.{StartLine, boot}
 use Rattle.stays_laws.specs.Laws.{CanBoot}
 use Rattle.refusal_laws.specs.Bounded.{IsBounded}
-use Rattle.physical_turns.specs.Physical.{Physical, physical_event, physical_turn, physical_turns, opening}
+use Rattle.physical_turns.specs.Physical.{Physical, event_in, turn_in, turns_in, opening_in}
 use Rattle.physical_turns.specs.After.{AfterIs}
 use Rattle.physical_turns.specs.Courses.{IsShown}
 use Rattle.go_on_laws.specs.Marks.{HasNoMark}
@@ -24,13 +24,13 @@ pub record IsRegularIn (p : Physical) : Type 0 where
 abbrev pub BootsAreRegularIn : Type 0
 BootsAreRegularIn =
     (rest : Rest) (starts : List StartLine) (w : World) (headers : List (List ℕ)) → CanBoot rest → rest.files ≡ nothing_open rest.files.stdin →
-    length starts ≤ most_entries → boot rest starts ≡ Ok w → IsRegularIn (opening headers w)
+    length starts ≤ most_entries → boot rest starts ≡ Ok w → IsRegularIn (opening_in headers w)
 
 abbrev pub EventsKeepRegularIn : Type 0
-EventsKeepRegularIn = (p : Physical) (pid : ℕ) → IsRegularIn p → AfterIs IsRegularIn (physical_event p pid)
+EventsKeepRegularIn = (p : Physical) (pid : ℕ) → IsRegularIn p → AfterIs IsRegularIn (event_in p pid)
 
 abbrev pub TurnsKeepRegularIn : Type 0
-TurnsKeepRegularIn = (count pid : ℕ) (p : Physical) → IsRegularIn p → IsRegularIn (physical_turn count pid p).now
+TurnsKeepRegularIn = (count pid : ℕ) (p : Physical) → IsRegularIn p → IsRegularIn (turn_in count pid p).now
 
 abbrev pub RunsKeepRegularIn : Type 0
-RunsKeepRegularIn = (quanta : List Quantum) (p : Physical) → IsRegularIn p → IsRegularIn (physical_turns quanta p).now
+RunsKeepRegularIn = (quanta : List Quantum) (p : Physical) → IsRegularIn p → IsRegularIn (turns_in quanta p).now

@@ -18,7 +18,7 @@ use Rattle.mmap_rules.specs.declared.want.Want.TheVariants.{Anon, File}
 use Rattle.mmap_rules.specs.Held.{page_address}
 use Rattle.mmap_rules.specs.Want.{AsksPages}
 use Rattle.mmap_rules.specs.Mappings.{run_mapping, part_mapping, copied_from, file_pages}
-use Rattle.mmap_rules.specs.Sides.{Sides, Mapped, in_fresh_run, in_copy, in_copy_or_new, mapped}
+use Rattle.mmap_rules.specs.MapState.{MapState, Mapped, in_fresh_run, in_copy, in_copy_or_new, mapped}
 use Rattle.mmap_rules.specs.Copies.{pages_of}
 use Rattle.mmap_rules.proofs.Chosen.{copy_has}
 use Rattle.mmap_rules.proofs.Fresh.{fresh_free}
@@ -40,7 +40,7 @@ pub record Copied (given : List ℕ) (asked : Want) (count : ℕ) (of : Source) 
   pub want : asked ≡ File count from false file change
 
 -- a run that was free, with its bytes
-pub record FreshRun (s : Sides) (bytes : List ℕ) (want : Want) (m : Mapped) : Type 0 where
+pub record FreshRun (s : MapState) (bytes : List ℕ) (want : Want) (m : Mapped) : Type 0 where
   pub first : ℕ
   pub count : ℕ
   pub writes : Bool
@@ -54,10 +54,10 @@ pub record FreshRun (s : Sides) (bytes : List ℕ) (want : Want) (m : Mapped) : 
   pub origin : (source ≡ Own) ⊎ Copied bytes want count source content
   pub wanted : (content ≡ asked_bytes bytes want) × (count ≡ pages_of want)
   pub addr : m.addr ≡ page_address first
-  pub pages : m.sides.held.pages ≡ s.held.pages
-  pub memory : m.sides.memory ≡ laid s.memory (4096 * first) content
-  pub maps : m.sides.held.maps ≡ s.held.maps ++ run_mapping first count writes anonymous source ∷ []
-  pub regions : m.sides.regions ≡ slice_set s.regions first (record { first = first; pages = count; source = source; uses = 1 })
+  pub pages : m.map_state.held.pages ≡ s.held.pages
+  pub memory : m.map_state.memory ≡ laid s.memory (4096 * first) content
+  pub maps : m.map_state.held.maps ≡ s.held.maps ++ run_mapping first count writes anonymous source ∷ []
+  pub regions : m.map_state.regions ≡ slice_set s.regions first (record { first = first; pages = count; source = source; uses = 1 })
 
 -- what a copy's source says of the pages that it covers
 pub record Covered (s : Source) (id change first pages held : ℕ) : Type 0 where
@@ -76,7 +76,7 @@ pub record Shares (r : Region) (asked : Want) (skip count : ℕ) : Type 0 where
   pub want : asked ≡ File count from false file change
 
 -- pages of a copy that is there, which has a use more
-pub record OneMore (s : Sides) (want : Want) (m : Mapped) : Type 0 where
+pub record OneMore (s : MapState) (want : Want) (m : Mapped) : Type 0 where
   pub region : Region
   pub skip : ℕ
   pub count : ℕ
@@ -86,12 +86,12 @@ pub record OneMore (s : Sides) (want : Want) (m : Mapped) : Type 0 where
   pub fits : skip + count ≤ region.pages
   pub shares : Shares region want skip count
   pub addr : m.addr ≡ page_address (region.first + skip)
-  pub pages : m.sides.held.pages ≡ s.held.pages
-  pub memory : m.sides.memory ≡ s.memory
-  pub maps : m.sides.held.maps ≡ s.held.maps ++ part_mapping region.first region.pages region.source skip count ∷ []
-  pub regions : m.sides.regions ≡ slice_set s.regions region.first (used region)
+  pub pages : m.map_state.held.pages ≡ s.held.pages
+  pub memory : m.map_state.memory ≡ s.memory
+  pub maps : m.map_state.held.maps ≡ s.held.maps ++ part_mapping region.first region.pages region.source skip count ∷ []
+  pub regions : m.map_state.regions ≡ slice_set s.regions region.first (used region)
 
-in_run : (s : Sides) (bytes : List ℕ) (want : Want) (kind : Kind) (count : ℕ) (writes anonymous : Bool) (source : Source) (content : List ℕ) (m : Mapped)
+in_run : (s : MapState) (bytes : List ℕ) (want : Want) (kind : Kind) (count : ℕ) (writes anonymous : Bool) (source : Source) (content : List ℕ) (m : Mapped)
     → 0 < count → length content ≡ 4096 * count → (writes ≡ true → source ≡ Own) → (source ≡ Own) ⊎ Copied bytes want count source content
     → content ≡ asked_bytes bytes want → count ≡ pages_of want
     → in_fresh_run s kind count writes anonymous source content ≡ Some m → FreshRun s bytes want m
@@ -116,10 +116,10 @@ in_run s bytes want kind count writes anonymous source content m some len writte
           origin = origin;
           wanted = (asked, asked_pages);
           addr = ap (λ (x : Mapped). x.addr) (sym same);
-          pages = ap (λ (x : Mapped). x.sides.held.pages) (sym same);
-          memory = ap (λ (x : Mapped). x.sides.memory) (sym same);
-          maps = ap (λ (x : Mapped). x.sides.held.maps) (sym same);
-          regions = ap (λ (x : Mapped). x.sides.regions) (sym same);
+          pages = ap (λ (x : Mapped). x.map_state.held.pages) (sym same);
+          memory = ap (λ (x : Mapped). x.map_state.memory) (sym same);
+          maps = ap (λ (x : Mapped). x.map_state.held.maps) (sym same);
+          regions = ap (λ (x : Mapped). x.map_state.regions) (sym same);
         }
 
 pub covered : (s : Source) (id change first pages held : ℕ) → copy_covers id change first pages s held ≡ true → Covered s id change first pages held
@@ -137,7 +137,7 @@ covered (Copy f c start) id change first pages held has =
 fits_in : (first from start count held : ℕ) → from ≡ start → start ≤ first → first + count ≤ start + held → first - from + count ≤ held
 fits_in first from start count held is low high = omega arith
 
-more : (s : Sides) (id change first count at : ℕ) (r : Region) (m : Mapped) → AreRegions s.regions → slice_get s.regions at ≡ Some r
+more : (s : MapState) (id change first count at : ℕ) (r : Region) (m : Mapped) → AreRegions s.regions → slice_get s.regions at ≡ Some r
     → covers id change first count r ≡ true → in_copy s first count (slice_get s.regions at) ≡ Some m → OneMore s (File count first false id change) m
 more s id change first count at r m are stands has is =
     let same = same_Some _ _ (rw stands at is) in
@@ -158,14 +158,14 @@ more s id change first count at r m are stands has is =
       fits = fits_in first (copied_from r.source) c.start count r.pages start c.from c.to;
       shares = record { file = id; change = change; from = first; covered = c; skipped = ap (λ (k : ℕ). first - k) start; want = refl };
       addr = ap (λ (x : Mapped). x.addr) (sym same);
-      pages = ap (λ (x : Mapped). x.sides.held.pages) (sym same);
-      memory = ap (λ (x : Mapped). x.sides.memory) (sym same);
-      maps = ap (λ (x : Mapped). x.sides.held.maps) (sym same);
-      regions = ap (λ (x : Mapped). x.sides.regions) (sym same) ∙ rw there refl;
+      pages = ap (λ (x : Mapped). x.map_state.held.pages) (sym same);
+      memory = ap (λ (x : Mapped). x.map_state.memory) (sym same);
+      maps = ap (λ (x : Mapped). x.map_state.held.maps) (sym same);
+      regions = ap (λ (x : Mapped). x.map_state.regions) (sym same) ∙ rw there refl;
     }
 
 -- one of the two
-pub change : (s : Sides) (kind : Kind) (bytes : List ℕ) (want : Want) (m : Mapped) → AsksPages want → AreRegions s.regions → mapped s kind bytes want ≡ Some m
+pub change : (s : MapState) (kind : Kind) (bytes : List ℕ) (want : Want) (m : Mapped) → AsksPages want → AreRegions s.regions → mapped s kind bytes want ≡ Some m
     → FreshRun s bytes want m ⊎ OneMore s want m
 unfolding mapped
 change s kind bytes (Anon pages) m asks are is =

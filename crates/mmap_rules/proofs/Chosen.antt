@@ -15,9 +15,9 @@ use Rattle.mmap_rules.specs.declared.want.Want.TheVariants.{Anon, File}
 use Rattle.mmap_rules.specs.declared.maps.Part.{Part}
 use Rattle.mmap_rules.specs.Mappings.{copied_from, filled, file_pages, CopyHas}
 use Rattle.mmap_rules.specs.Chosen.{part_at, part_for, new_run, bytes_copied}
-use Rattle.mmap_rules.specs.Sides.{Sides, in_fresh_run, in_copy, in_copy_or_new, mapped}
+use Rattle.mmap_rules.specs.MapState.{MapState, in_fresh_run, in_copy, in_copy_or_new, mapped}
 
-pub mapped_part : (s : Sides) (kind : Kind) (bytes : List ℕ) (want : Want) (p : Part) → part_for s.regions want ≡ Some p →
+pub mapped_part : (s : MapState) (kind : Kind) (bytes : List ℕ) (want : Want) (p : Part) → part_for s.regions want ≡ Some p →
     mapped s kind bytes want ≡ in_copy s p.first p.pages (slice_get s.regions p.copy)
 unfolding mapped
 mapped_part s kind bytes (Anon pages) p is = absurd (none-some p is)
@@ -36,7 +36,7 @@ pub part_is : (rs : Numbered) (want : Want) (pages first : ℕ) (write : Bool) (
 part_is rs want pages first write id change copy lowest is reads =
     rw (is, reads) (ap (option_map {U = Part} (λ (found : ℕ). record { copy = found; first = first; pages = pages })) lowest)
 
-pub mapped_new : (s : Sides) (kind : Kind) (bytes : List ℕ) (want : Want) → part_for s.regions want ≡ None →
+pub mapped_new : (s : MapState) (kind : Kind) (bytes : List ℕ) (want : Want) → part_for s.regions want ≡ None →
     mapped s kind bytes want ≡ in_fresh_run s kind (new_run want).pages (new_run want).writes (new_run want).anonymous (new_run want).source
     (filled (4096 * (new_run want).pages) (bytes_copied bytes want))
 unfolding mapped file_pages

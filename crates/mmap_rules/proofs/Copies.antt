@@ -12,7 +12,7 @@ use Rattle.mmap_rules.specs.declared.owners.PageOwner.{PageOwner}
 use Rattle.mmap_rules.specs.Owners.{IsTable, Says, distance, meets}
 use Rattle.mmap_rules.specs.Held.{IsMapping, AreMappings}
 use Rattle.mmap_rules.specs.Mappings.{part_mapping, copied_from, CopyHas, CanAdd}
-use Rattle.mmap_rules.specs.Sides.{Names, NameRegions, AreFew}
+use Rattle.mmap_rules.specs.MapState.{Names, NameRegions, AreFew}
 use Rattle.mmap_rules.proofs.Lists.{found_counted}
 use Rattle.mmap_rules.proofs.Mapped.{part_is}
 use Rattle.mmap_rules.proofs.Meets.{meets_in, named_holds, few_meet}

@@ -21,7 +21,7 @@ use Rattle.mmap_rules.specs.Want.{AsksPages}
 use Rattle.mmap_rules.specs.Held.{page_address}
 use Rattle.mmap_rules.specs.Mappings.{file_pages, page_at}
 use Rattle.mmap_rules.specs.Copies.{pages_at, bytes_of, HasSource, AllHold, IsKnown, pages_of, wanted_bytes}
-use Rattle.mmap_rules.specs.Sides.{Sides, Mapped, Maps, mapped, file_in}
+use Rattle.mmap_rules.specs.MapState.{MapState, Mapped, Maps, mapped, file_in}
 use Rattle.mmap_rules.proofs.Change.{FreshRun, OneMore, Copied, Covered, asked_bytes, change}
 use Rattle.mmap_rules.proofs.FilePages.{length-file_pages, file_byte}
 use Rattle.mmap_rules.proofs.NamesMore.{used}
@@ -137,7 +137,7 @@ copy_byte mem nodes r id change first pages c holds n node count i less =
     ∙ get_or-drop (4096 * r.first) mem at 0
     ∙ ap (λ (p : ℕ). get_or mem p 0) behind
 
-module _ (s : Sides) (nodes : Inodes) (want : Want) (m : Mapped) (are : AreRegions s.regions) (whole : length s.memory ≡ 4096 * length s.regions)
+module _ (s : MapState) (nodes : Inodes) (want : Want) (m : Mapped) (are : AreRegions s.regions) (whole : length s.memory ≡ 4096 * length s.regions)
     (holds : AllHold s.regions s.memory nodes) where
   run_fits : (run : FreshRun s (bytes_of_file nodes (file_in want)) want m) → 4096 * run.first + length run.content ≤ length s.memory
   run_fits run = (let inside = run.free.inside in let len = run.len in omega (arith, whole, inside, len))
@@ -145,7 +145,7 @@ module _ (s : Sides) (nodes : Inodes) (want : Want) (m : Mapped) (are : AreRegio
   run_bytes : (run : FreshRun s (bytes_of_file nodes (file_in want)) want m) → pages_at (laid s.memory (4096 * run.first) run.content) run.first run.count ≡ run.content
   run_bytes run = laid_there s.memory run.content (4096 * run.first) (4096 * run.count) (run_fits run) (sym run.len)
 
-  fresh_copies : FreshRun s (bytes_of_file nodes (file_in want)) want m → AllHold m.sides.regions m.sides.memory nodes
+  fresh_copies : FreshRun s (bytes_of_file nodes (file_in want)) want m → AllHold m.map_state.regions m.map_state.memory nodes
   fresh_copies run =
       let v : Region = record { first = run.first; pages = run.count; source = run.source; uses = 1 } in
       let now : List ℕ = laid s.memory (4096 * run.first) run.content in
@@ -159,7 +159,7 @@ module _ (s : Sides) (nodes : Inodes) (want : Want) (m : Mapped) (are : AreRegio
             (holds id r other.1 live)
       ])
 
-  more_copies : OneMore s want m → AllHold m.sides.regions m.sides.memory nodes
+  more_copies : OneMore s want m → AllHold m.map_state.regions m.map_state.memory nodes
   more_copies one =
       let v : Region = used one.region in
       rw (one.regions, one.memory) (λ id r there live. elim (after_set s.regions one.region.first id v r there) [
@@ -175,7 +175,7 @@ module _ (s : Sides) (nodes : Inodes) (want : Want) (m : Mapped) (are : AreRegio
   asked_is (Anon pages) = refl
   asked_is (File pages first write id change) = refl
 
-  fresh_bytes : FreshRun s (bytes_of_file nodes (file_in want)) want m → pages_at m.sides.memory (page_at m.addr) (pages_of want) ≡ wanted_bytes nodes want
+  fresh_bytes : FreshRun s (bytes_of_file nodes (file_in want)) want m → pages_at m.map_state.memory (page_at m.addr) (pages_of want) ≡ wanted_bytes nodes want
   fresh_bytes run =
       let place : page_at (page_address run.first) ≡ run.first = omega arith in
       rw (run.memory, run.addr, place, ← run.wanted.1) (run_bytes run ∙ run.wanted.0 ∙ asked_is want)
@@ -202,7 +202,7 @@ module _ (s : Sides) (nodes : Inodes) (want : Want) (m : Mapped) (are : AreRegio
       let low : i < 4096 * one.count = omega (arith, less, len) in
       get_or-take (4096 * one.count) (drop at s.memory) i 0 low ∙ get_or-drop at s.memory i 0 ∙ sym (shared_byte one n node count i low))
 
-  more_bytes : IsKnown nodes want → OneMore s want m → pages_at m.sides.memory (page_at m.addr) (pages_of want) ≡ wanted_bytes nodes want
+  more_bytes : IsKnown nodes want → OneMore s want m → pages_at m.map_state.memory (page_at m.addr) (pages_of want) ≡ wanted_bytes nodes want
   more_bytes known one =
       let sh = one.shares in
       let there : IsKnown nodes (File one.count sh.from false sh.file sh.change) = subst (IsKnown nodes) sh.want known in
@@ -213,7 +213,7 @@ module _ (s : Sides) (nodes : Inodes) (want : Want) (m : Mapped) (are : AreRegio
 
 -- ---- what `map` leaves
 
-pub all_hold : (s new : Sides) (kind : Kind) (nodes : Inodes) (want : Want) (result : Result ℕ MapFault) → AsksPages want → AreRegions s.regions
+pub all_hold : (s new : MapState) (kind : Kind) (nodes : Inodes) (want : Want) (result : Result ℕ MapFault) → AsksPages want → AreRegions s.regions
     → length s.memory ≡ 4096 * length s.regions → AllHold s.regions s.memory nodes
     → Maps (mapped s kind (bytes_of_file nodes (file_in want)) want) s new result → AllHold new.regions new.memory nodes
 all_hold s new kind nodes want result asks are whole holds = at (mapped s kind (bytes_of_file nodes (file_in want)) want) refl result
@@ -221,24 +221,24 @@ all_hold s new kind nodes want result asks are whole holds = at (mapped s kind (
     at : (o : Option Mapped) → mapped s kind (bytes_of_file nodes (file_in want)) want ≡ o → (result : Result ℕ MapFault) → Maps o s new result
         → AllHold new.regions new.memory nodes
     at (Some m) is (Ok addr) maps =
-        subst (λ (x : Sides). AllHold x.regions x.memory nodes) (sym maps.1) (elim (change s kind (bytes_of_file nodes (file_in want)) want m asks are is) [
+        subst (λ (x : MapState). AllHold x.regions x.memory nodes) (sym maps.1) (elim (change s kind (bytes_of_file nodes (file_in want)) want m asks are is) [
           | inl run ↦ fresh_copies s nodes want m are whole holds run
           | inr one ↦ more_copies s nodes want m are whole holds one
         ])
     at (Some m) is (Err Enomem) maps = absurd maps
-    at (Some m) is (Err Memory) maps = subst (λ (x : Sides). AllHold x.regions x.memory nodes) (sym maps) holds
+    at (Some m) is (Err Memory) maps = subst (λ (x : MapState). AllHold x.regions x.memory nodes) (sym maps) holds
     at None is (Ok addr) maps = absurd maps
-    at None is (Err Enomem) maps = subst (λ (x : Sides). AllHold x.regions x.memory nodes) (sym maps) holds
-    at None is (Err Memory) maps = subst (λ (x : Sides). AllHold x.regions x.memory nodes) (sym maps) holds
+    at None is (Err Enomem) maps = subst (λ (x : MapState). AllHold x.regions x.memory nodes) (sym maps) holds
+    at None is (Err Memory) maps = subst (λ (x : MapState). AllHold x.regions x.memory nodes) (sym maps) holds
 
-pub has_wanted : (s new : Sides) (kind : Kind) (nodes : Inodes) (want : Want) (result : Result ℕ MapFault) → AsksPages want → AreRegions s.regions
+pub has_wanted : (s new : MapState) (kind : Kind) (nodes : Inodes) (want : Want) (result : Result ℕ MapFault) → AsksPages want → AreRegions s.regions
     → length s.memory ≡ 4096 * length s.regions → AllHold s.regions s.memory nodes → IsKnown nodes want
     → Maps (mapped s kind (bytes_of_file nodes (file_in want)) want) s new result
     → IfOk result (λ addr. pages_at new.memory (page_at addr) (pages_of want) ≡ wanted_bytes nodes want)
 has_wanted s new kind nodes want result asks are whole holds known = at (mapped s kind (bytes_of_file nodes (file_in want)) want) refl result
   where
     bytes : (m : Mapped) → mapped s kind (bytes_of_file nodes (file_in want)) want ≡ Some m
-        → pages_at m.sides.memory (page_at m.addr) (pages_of want) ≡ wanted_bytes nodes want
+        → pages_at m.map_state.memory (page_at m.addr) (pages_of want) ≡ wanted_bytes nodes want
     bytes m is = elim (change s kind (bytes_of_file nodes (file_in want)) want m asks are is) [
       | inl run ↦ fresh_bytes s nodes want m are whole holds run
       | inr one ↦ more_bytes s nodes want m are whole holds known one

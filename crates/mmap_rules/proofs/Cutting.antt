@@ -9,7 +9,7 @@ use Rattle.nommu_regions.specs.declared.region.Source.TheVariants.{Own}
 use Rattle.nommu_regions.specs.Regions.{AreRegions, holds}
 use Rattle.mmap_rules.specs.declared.mapping.Mapping.{Mapping}
 use Rattle.mmap_rules.specs.Mappings.{page_at}
-use Rattle.mmap_rules.specs.Sides.{Names, NameRegions}
+use Rattle.mmap_rules.specs.MapState.{Names, NameRegions}
 use Rattle.mmap_rules.proofs.Lists.{counted_found, each_append}
 use Rattle.mmap_rules.proofs.Parts.{Cuts, both}
 use Rattle.mmap_rules.proofs.NamesLess.{others, named_by, names_others, count_others}

@@ -14,9 +14,9 @@ use Rattle.mmap_rules.specs.declared.want.Want.TheVariants.{Anon, File}
 use Rattle.mmap_rules.specs.declared.maps.Part.{Part}
 use Rattle.mmap_rules.specs.Chosen.{part_at, part_for, new_run}
 use Rattle.mmap_rules.specs.Held.{Held}
-use Rattle.mmap_rules.specs.Sides.{Sides, sides, in_fresh_run, in_copy, in_copy_or_new, mapped}
+use Rattle.mmap_rules.specs.MapState.{MapState, map_state, in_fresh_run, in_copy, in_copy_or_new, mapped}
 
-fresh_is : (s : Sides) (kind : Kind) (pages : ℕ) (writes anonymous : Bool) (source : Source) (bytes : List ℕ) →
+fresh_is : (s : MapState) (kind : Kind) (pages : ℕ) (writes anonymous : Bool) (source : Source) (bytes : List ℕ) →
     is_some (place kind (free_of s.regions).runs pages) ≡ is_some (in_fresh_run s kind pages writes anonymous source bytes)
 fresh_is s kind pages writes anonymous source bytes = at (place kind (free_of s.regions).runs pages) refl
   where
@@ -30,8 +30,8 @@ fresh_is s kind pages writes anonymous source bytes = at (place kind (free_of s.
         rw first (ap is_some is)
 
 module _ (n : Numbered) (fits : Bool) (held : Held) (memory bytes : List ℕ) (kind : Kind) where
-  abbrev s : Sides
-  s = sides held n.regions memory
+  abbrev s : MapState
+  s = map_state held n.regions memory
 
   -- a file that isn't written, by the copy that has its pages
   copied : (pages first id change : ℕ) (part : Option Part) (copy : Option ℕ) → copy_of n.regions id change first pages ≡ copy →
@@ -55,8 +55,8 @@ module _ (n : Numbered) (fits : Bool) (held : Held) (memory bytes : List ℕ) (k
       copied pages first id change part (copy_of n.regions id change first pages) refl parts live room
 
 -- and so for all that has these regions
-pub fits_is : (n : Numbered) (fits : Bool) (s : Sides) (bytes : List ℕ) (kind : Kind) (want : Want) (part : Option Part) → s.regions ≡ n.regions →
+pub fits_is : (n : Numbered) (fits : Bool) (s : MapState) (bytes : List ℕ) (kind : Kind) (want : Want) (part : Option Part) → s.regions ≡ n.regions →
     option_map (part_at n) part ≡ part_for n.regions want → IfSome part (λ p. Lives n p.copy) →
     is_some (place kind (free_of n.regions).runs (new_run want).pages) ≡ fits → (is_some part || fits) ≡ is_some (mapped s kind bytes want)
 fits_is n fits s bytes kind want part same parts live room =
-    would_be n fits s.held s.memory bytes kind want part parts live room ∙ ap (λ rs. is_some (mapped (sides s.held rs s.memory) kind bytes want)) (sym same)
+    would_be n fits s.held s.memory bytes kind want part parts live room ∙ ap (λ rs. is_some (mapped (map_state s.held rs s.memory) kind bytes want)) (sym same)

@@ -12,7 +12,7 @@ use Rattle.mmap_rules.specs.declared.owners.PageOwner.{PageOwner}
 use Rattle.mmap_rules.specs.Owners.{IsTable, meets}
 use Rattle.mmap_rules.specs.Held.{AreMappings}
 use Rattle.mmap_rules.specs.Mappings.{run_mapping, IsNewRun, CanAdd}
-use Rattle.mmap_rules.specs.Sides.{NameRegions, AreFew}
+use Rattle.mmap_rules.specs.MapState.{NameRegions, AreFew}
 use Rattle.mmap_rules.proofs.Mapped.{run_is}
 use Rattle.mmap_rules.proofs.Meets.{meets_in, named_holds, count_none, few_meet}
 

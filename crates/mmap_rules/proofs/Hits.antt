@@ -14,7 +14,7 @@ use Rattle.mmap_rules.specs.Held.{Held}
 use Rattle.mmap_rules.specs.Want.{pages_for}
 use Rattle.mmap_rules.specs.Mappings.{is_range, can_lose, page_at, part_of, left_of, Hit, hit, hit_in, without_hit}
 use Rattle.call_log.specs.declared.errno.Errno.TheVariants.{Einval}
-use Rattle.mmap_rules.specs.Sides.{freed, given_back, after_hit, unmapped, Unmaps}
+use Rattle.mmap_rules.specs.MapState.{freed, given_back, after_hit, unmapped, Unmaps}
 use Rattle.mmap_rules.proofs.TableLess.{is_removed}
 
 -- ---- the first item that passes a test

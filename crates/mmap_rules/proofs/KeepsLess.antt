@@ -10,7 +10,7 @@ use Rattle.mmap_rules.specs.declared.mapping.Mapping.{Mapping}
 use Rattle.mmap_rules.specs.Held.{Held}
 use Rattle.mmap_rules.specs.Want.{pages_for}
 use Rattle.mmap_rules.specs.Mappings.{page_at, Hit, hit}
-use Rattle.mmap_rules.specs.Sides.{Freed, freed, given_back, after_hit, unmapped, Unmaps}
+use Rattle.mmap_rules.specs.MapState.{Freed, freed, given_back, after_hit, unmapped, Unmaps}
 
 -- ---- uses
 

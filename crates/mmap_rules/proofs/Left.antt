@@ -6,10 +6,10 @@ use Rattle.nommu_regions.specs.declared.region.Region.{Region}
 use Rattle.mmap_rules.specs.declared.mapping.Mapping.{Mapping}
 use Rattle.mmap_rules.specs.Held.{Held}
 use Rattle.mmap_rules.specs.Mappings.{filled}
-use Rattle.mmap_rules.specs.Sides.{sides, with_mapping}
+use Rattle.mmap_rules.specs.MapState.{map_state, with_mapping}
 
-pub sides_same : (h k : Held) (r s : List Region) (m n : List ℕ) → h ≡ k → r ≡ s → m ≡ n → sides h r m ≡ sides k s n
-sides_same h k r s m n held regions memory = λ i. sides (held i) (regions i) (memory i)
+pub sides_same : (h k : Held) (r s : List Region) (m n : List ℕ) → h ≡ k → r ≡ s → m ≡ n → map_state h r m ≡ map_state k s n
+sides_same h k r s m n held regions memory = λ i. map_state (held i) (regions i) (memory i)
 
 pub held_more : (old : Held) (maps now : List Mapping) (brk low high pages count : ℕ) (m : Mapping) →
     record { maps = maps; brk = brk; brk_low = low; brk_high = high; pages = pages } ≡ old → now ≡ maps ++ m ∷ [] → count ≡ pages →

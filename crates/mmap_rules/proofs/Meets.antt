@@ -11,7 +11,7 @@ use Rattle.nommu_regions.specs.Regions.{holds, AreRegions}
 use Rattle.mmap_rules.specs.declared.mapping.Mapping.{Mapping}
 use Rattle.mmap_rules.specs.Owners.{meets}
 use Rattle.mmap_rules.specs.Held.{IsMapping, AreMappings}
-use Rattle.mmap_rules.specs.Sides.{Names, NameRegions, AreFew}
+use Rattle.mmap_rules.specs.MapState.{Names, NameRegions, AreFew}
 use Rattle.mmap_rules.proofs.Lists.{found_counted}
 
 -- ---- mappings that are counted

@@ -14,7 +14,7 @@ use Rattle.nommu_regions.proofs.Kept.{get_set, get_other}
 use Rattle.mmap_rules.specs.declared.mapping.Mapping.{Mapping}
 use Rattle.mmap_rules.specs.Held.{block_mapping}
 use Rattle.mmap_rules.specs.Mappings.{run_mapping}
-use Rattle.mmap_rules.specs.Sides.{Names, NameRegions}
+use Rattle.mmap_rules.specs.MapState.{Names, NameRegions}
 use Rattle.mmap_rules.proofs.Lists.{each_one, each_append}
 use Rattle.mmap_rules.proofs.Meets.{count_none}
 

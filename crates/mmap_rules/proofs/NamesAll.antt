@@ -10,7 +10,7 @@ use Rattle.mmap_rules.specs.declared.mapping.Mapping.{Mapping}
 use Rattle.mmap_rules.specs.Held.{Held, AreMappings}
 use Rattle.mmap_rules.specs.Want.{pages_for}
 use Rattle.mmap_rules.specs.Mappings.{is_range, can_lose, page_at, left_of}
-use Rattle.mmap_rules.specs.Sides.{Freed, unmapped, NameRegions}
+use Rattle.mmap_rules.specs.MapState.{Freed, unmapped, NameRegions}
 use Rattle.mmap_rules.proofs.TableLess.{is_removed}
 use Rattle.mmap_rules.proofs.Cuts.{cuts}
 use Rattle.mmap_rules.proofs.Hits.{unmapped_len, unmapped_page, unmapped_nothing, unmapped_all, unmapped_cut, first_passes, some_pages}

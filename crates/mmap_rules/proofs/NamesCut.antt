@@ -9,7 +9,7 @@ use Rattle.nommu_regions.proofs.Held.{after_set}
 use Rattle.nommu_regions.proofs.Kept.{get_set, get_other}
 use Rattle.mmap_rules.specs.declared.mapping.Mapping.{Mapping}
 use Rattle.mmap_rules.specs.Mappings.{page_at, left_of}
-use Rattle.mmap_rules.specs.Sides.{Names, NameRegions}
+use Rattle.mmap_rules.specs.MapState.{Names, NameRegions}
 use Rattle.mmap_rules.proofs.Parts.{Cuts, each_left}
 use Rattle.mmap_rules.proofs.NamesLess.{others, named_by, names_others}
 use Rattle.mmap_rules.proofs.Cutting.{Cutting, each_of, cutting, other_first, other_end}

@@ -11,7 +11,7 @@ use Rattle.nommu_regions.proofs.Held.{after_set}
 use Rattle.nommu_regions.proofs.Kept.{get_set, get_other}
 use Rattle.mmap_rules.specs.declared.mapping.Mapping.{Mapping}
 use Rattle.mmap_rules.specs.Mappings.{is_range}
-use Rattle.mmap_rules.specs.Sides.{Names, NameRegions}
+use Rattle.mmap_rules.specs.MapState.{Names, NameRegions}
 use Rattle.mmap_rules.proofs.Lists.{each_cut, counted_found, sum_cut}
 use Rattle.mmap_rules.proofs.TableLess.{is_removed}
 use Rattle.mmap_rules.proofs.Parts.{Cuts, both}

@@ -9,7 +9,7 @@ use Rattle.nommu_regions.proofs.Held.{after_set}
 use Rattle.nommu_regions.proofs.Kept.{get_set, get_other}
 use Rattle.mmap_rules.specs.declared.mapping.Mapping.{Mapping}
 use Rattle.mmap_rules.specs.Mappings.{part_mapping}
-use Rattle.mmap_rules.specs.Sides.{Names, NameRegions}
+use Rattle.mmap_rules.specs.MapState.{Names, NameRegions}
 use Rattle.mmap_rules.proofs.Names.{names_push}
 
 -- the region of an id with one use more

@@ -8,7 +8,7 @@ use Rattle.nommu_regions.specs.Regions.{before, behind}
 use Rattle.nommu_regions.proofs.Held.{after_set}
 use Rattle.mmap_rules.specs.declared.mapping.Mapping.{Mapping}
 use Rattle.mmap_rules.specs.Mappings.{page_at, part_of, left_of}
-use Rattle.mmap_rules.specs.Sides.{Names}
+use Rattle.mmap_rules.specs.MapState.{Names}
 use Rattle.mmap_rules.proofs.Lists.{Found, found_counted, sum_cut}
 use Rattle.mmap_rules.proofs.Parts.{run_of}
 use Rattle.mmap_rules.proofs.NamesLess.{others, named_by, count_others}

@@ -9,9 +9,9 @@ use Rattle.page_runs.proofs.Places.{placed}
 use Rattle.nommu_regions.specs.declared.region.Region.{Region}
 use Rattle.nommu_regions.specs.declared.region.Source.{Source}
 use Rattle.nommu_regions.specs.Regions.{free_of}
-use Rattle.mmap_rules.specs.Sides.{Sides, in_fresh_run, in_copy}
+use Rattle.mmap_rules.specs.MapState.{MapState, in_fresh_run, in_copy}
 
-pub none_fits : (s : Sides) (kind : Kind) (pages : ℕ) (writes anonymous : Bool) (source : Source) (bytes : List ℕ) →
+pub none_fits : (s : MapState) (kind : Kind) (pages : ℕ) (writes anonymous : Bool) (source : Source) (bytes : List ℕ) →
     in_fresh_run s kind pages writes anonymous source bytes ≡ None → is_some (place kind (free_of s.regions).runs pages) ≡ false
 none_fits s kind pages writes anonymous source bytes none = at (place kind (free_of s.regions).runs pages) refl
   where
@@ -24,5 +24,5 @@ none_fits s kind pages writes anonymous source bytes none = at (place kind (free
         absurd (none-some _ (sym (rw first at none)))
 
 -- a copy that is there is mapped
-pub copy_fits : (s : Sides) (first pages : ℕ) (o : Option Region) (r : Region) → o ≡ Some r → in_copy s first pages o ≡ None → ⊥
+pub copy_fits : (s : MapState) (first pages : ℕ) (o : Option Region) (r : Region) → o ≡ Some r → in_copy s first pages o ≡ None → ⊥
 copy_fits s first pages o r is none = none-some _ (sym (rw is at none))

@@ -15,7 +15,7 @@ use Rattle.mmap_rules.specs.declared.want.Want.TheVariants.{Anon, File}
 use Rattle.mmap_rules.specs.Held.{Held, held_block}
 use Rattle.mmap_rules.specs.Want.{wanted}
 use Rattle.mmap_rules.specs.Mappings.{run_mapping, part_mapping, hit, without_hit}
-use Rattle.mmap_rules.specs.Sides.{Sides, Mapped, mapped, Freed, freed, unmapped}
+use Rattle.mmap_rules.specs.MapState.{MapState, Mapped, mapped, Freed, freed, unmapped}
 
 -- no region
 none : Region
@@ -31,9 +31,9 @@ anon first pages = run_mapping first pages true true Own
 
 -- what a mapping answers, and what it leaves but for the bytes
 abbrev answer : Option Mapped → Option (ℕ × Freed)
-answer = option_map (λ (m : Mapped). (m.addr, freed m.sides.held m.sides.regions))
+answer = option_map (λ (m : Mapped). (m.addr, freed m.map_state.held m.map_state.regions))
 
-at_sides : Freed → Sides
+at_sides : Freed → MapState
 at_sides f = record { held = f.held; regions = f.regions; memory = [] }
 
 -- a space with its block, and these mappings

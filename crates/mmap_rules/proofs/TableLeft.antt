@@ -5,7 +5,7 @@ use Rattle.std.proofs.lemmas.Bool.Decides.{nat_tests}
 use Rattle.mmap_rules.specs.declared.mapping.Range.{Range}
 use Rattle.mmap_rules.specs.declared.mapping.Mapping.{Mapping}
 use Rattle.mmap_rules.specs.declared.owners.PageOwner.{PageOwner}
-use Rattle.mmap_rules.specs.Owners.{IsTable, Says, meets, unnoted}
+use Rattle.mmap_rules.specs.Owners.{IsTable, Says, meets, taken_out}
 use Rattle.mmap_rules.specs.Held.{page_address}
 use Rattle.mmap_rules.specs.Mappings.{left_of}
 use Rattle.mmap_rules.proofs.TableLess.{Shares, ReadAlike, table_cut}
@@ -61,7 +61,7 @@ left_alike pages m addr size cuts page o says =
 
 pub table_left : (pages : ℕ) (table new : List PageOwner) (maps : List Mapping) (k : ℕ) (m : Mapping) (r : Range) (addr size : ℕ) → IsTable table maps → slice_get maps k ≡ Some m
     → Cuts pages m addr size → r.from ≡ addr → r.size ≡ size
-    → ((page : ℕ) → slice_get new page ≡ option_map (unnoted r page) (slice_get table page))
+    → ((page : ℕ) → slice_get new page ≡ option_map (taken_out r page) (slice_get table page))
     → IsTable new (take k maps ++ left_of m addr size ++ drop (k + 1) maps)
 table_left pages table new maps k m r addr size is at_k cuts is_from is_size each =
     table_cut table new maps k m r (left_of m addr size) is at_k (left_shares pages m r addr size cuts is_from is_size) (left_alike pages m addr size cuts) each

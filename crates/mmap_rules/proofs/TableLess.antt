@@ -7,14 +7,14 @@ use Rattle.std.proofs.lemmas.Option.{none-some}
 use Rattle.mmap_rules.specs.declared.mapping.Range.{Range}
 use Rattle.mmap_rules.specs.declared.mapping.Mapping.{Mapping}
 use Rattle.mmap_rules.specs.declared.owners.PageOwner.{PageOwner}
-use Rattle.mmap_rules.specs.Owners.{IsTable, Says, meets, unnoted, free_page}
+use Rattle.mmap_rules.specs.Owners.{IsTable, Says, meets, taken_out, free_page}
 use Rattle.mmap_rules.proofs.Lists.{each_cut, counted_found, sum_cut}
 use Rattle.mmap_rules.proofs.TableMore.{Was, was}
 
 -- ---- the entry with one range less
 
-uses_less : (r : Range) (page : ℕ) (o : PageOwner) → (unnoted r page o).uses ≡ o.uses - cond (meets r page) 1 0
-unfolding unnoted
+uses_less : (r : Range) (page : ℕ) (o : PageOwner) → (taken_out r page o).uses ≡ o.uses - cond (meets r page) 1 0
+unfolding taken_out
 uses_less r page o =
     elim (cases_Bool (meets r page)) [
       | inr off ↦ rw off (omega arith)
@@ -24,8 +24,8 @@ uses_less r page o =
       ]
     ]
 
-says_less : (r : Range) (page : ℕ) (o : PageOwner) (n : Range) → 0 < (unnoted r page o).uses → Says o page n → Says (unnoted r page o) page n
-unfolding unnoted
+says_less : (r : Range) (page : ℕ) (o : PageOwner) (n : Range) → 0 < (taken_out r page o).uses → Says o page n → Says (taken_out r page o) page n
+unfolding taken_out
 says_less r page o n some says =
     elim (cases_Bool (meets r page)) [
       | inr off ↦ rw off says
@@ -35,8 +35,8 @@ says_less r page o n some says =
       ]
     ]
 
-none_less : (r : Range) (page : ℕ) (o : PageOwner) → (o.uses ≡ 0 → o ≡ free_page) → (unnoted r page o).uses ≡ 0 → unnoted r page o ≡ free_page
-unfolding unnoted
+none_less : (r : Range) (page : ℕ) (o : PageOwner) → (o.uses ≡ 0 → o ≡ free_page) → (taken_out r page o).uses ≡ 0 → taken_out r page o ≡ free_page
+unfolding taken_out
 none_less r page o free none =
     elim (cases_Bool (meets r page)) [
       | inr off ↦ (let unused = rw off at none in rw off (free unused))
@@ -58,12 +58,12 @@ ReadAlike m left = (page : ℕ) (o : PageOwner) → Says o page m.range → (j :
 
 pub table_cut : (table new : List PageOwner) (maps : List Mapping) (k : ℕ) (m : Mapping) (r : Range) (left : List Mapping) → IsTable table maps → slice_get maps k ≡ Some m
     → Shares m r left → ReadAlike m left
-    → ((page : ℕ) → slice_get new page ≡ option_map (unnoted r page) (slice_get table page))
+    → ((page : ℕ) → slice_get new page ≡ option_map (taken_out r page) (slice_get table page))
     → IsTable new (take k maps ++ left ++ drop (k + 1) maps)
 table_cut table new maps k m r left is at_k shares alike each = record { counts = counts; says = says; none = none }
   where
-    at : (page : ℕ) (o : PageOwner) → slice_get new page ≡ Some o → Was (unnoted r page) (slice_get table page) o
-    at page o there = was (unnoted r page) (slice_get table page) o (slice_get new page) there (each page)
+    at : (page : ℕ) (o : PageOwner) → slice_get new page ≡ Some o → Was (taken_out r page) (slice_get table page) o
+    at page o there = was (taken_out r page) (slice_get table page) o (slice_get new page) there (each page)
 
     counts : (page : ℕ) (o : PageOwner) → slice_get new page ≡ Some o → o.uses ≡ count_by (λ n. meets n.range page) (take k maps ++ left ++ drop (k + 1) maps)
     counts page o there =
@@ -83,7 +83,7 @@ table_cut table new maps k m r left is at_k shares alike each = record { counts 
         alike page w.entry (is.says page k w.entry m w.there at_k (met page i x got on)) i x got on in
         let some = counted_found (λ (y : Mapping). meets y.range page) (take k maps ++ left ++ drop (k + 1) maps) j n item meet in
         let count = counts page o there in
-        let used : 0 < (unnoted r page w.entry).uses = subst (λ (x : PageOwner). 0 < x.uses) w.same (let u : 0 < o.uses = omega (arith, some, count) in u) in
+        let used : 0 < (taken_out r page w.entry).uses = subst (λ (x : PageOwner). 0 < x.uses) w.same (let u : 0 < o.uses = omega (arith, some, count) in u) in
         subst (λ (x : PageOwner). Says x page n.range) (sym w.same) (says_less r page w.entry n.range used (each_cut Reads k maps left old part j n item meet))
       where
         met : (page i : ℕ) (x : Mapping) → slice_get left i ≡ Some x → meets x.range page ≡ true → meets m.range page ≡ true
@@ -102,7 +102,7 @@ table_cut table new maps k m r left is at_k shares alike each = record { counts 
 
 -- all of a mapping goes
 pub table_without : (table new : List PageOwner) (maps : List Mapping) (k : ℕ) (m : Mapping) → IsTable table maps → slice_get maps k ≡ Some m
-    → ((page : ℕ) → slice_get new page ≡ option_map (unnoted m.range page) (slice_get table page))
+    → ((page : ℕ) → slice_get new page ≡ option_map (taken_out m.range page) (slice_get table page))
     → IsTable new (take k maps ++ [] ++ drop (k + 1) maps)
 table_without table new maps k m is at_k each =
     table_cut table new maps k m m.range [] is at_k (λ page. omega arith) (λ page o says j n item. absurd (none-some n item)) each
@@ -115,11 +115,11 @@ pub is_removed : {X : Type 0} (xs : List X) (k : ℕ) → take k xs ++ [] ++ dro
 is_removed xs k = is_dropped xs k ∙ ap (λ n. take k xs ++ drop n xs) (add-one k)
 
 pub table_less : (table new : List PageOwner) (maps : List Mapping) (k : ℕ) (m : Mapping) → IsTable table maps → slice_get maps k ≡ Some m
-    → ((page : ℕ) → slice_get new page ≡ option_map (unnoted m.range page) (slice_get table page))
+    → ((page : ℕ) → slice_get new page ≡ option_map (taken_out m.range page) (slice_get table page))
     → IsTable new (remove maps k)
 table_less table new maps k m is at_k each = subst (IsTable new) (is_removed maps k) (table_without table new maps k m is at_k each)
 
 pub table_dropped : (table new : List PageOwner) (maps : List Mapping) (k : ℕ) (m : Mapping) → IsTable table maps → slice_get maps k ≡ Some m
-    → ((page : ℕ) → slice_get new page ≡ option_map (unnoted m.range page) (slice_get table page))
+    → ((page : ℕ) → slice_get new page ≡ option_map (taken_out m.range page) (slice_get table page))
     → IsTable new (take k maps ++ drop (k + 1) maps)
 table_dropped table new maps k m is at_k each = subst (IsTable new) (is_dropped maps k) (table_without table new maps k m is at_k each)

@@ -8,7 +8,7 @@ use Rattle.std.proofs.lemmas.List.Sums.{sum_by_push}
 use Rattle.mmap_rules.specs.declared.mapping.Range.{Range}
 use Rattle.mmap_rules.specs.declared.mapping.Mapping.{Mapping}
 use Rattle.mmap_rules.specs.declared.owners.PageOwner.{PageOwner}
-use Rattle.mmap_rules.specs.Owners.{IsTable, Says, meets, noted, free_page}
+use Rattle.mmap_rules.specs.Owners.{IsTable, Says, meets, entered, free_page}
 use Rattle.mmap_rules.proofs.Lists.{each_one, each_append, counted_found}
 
 -- ---- an entry that was changed
@@ -24,8 +24,8 @@ was f (Some x) now o is each = record { entry = x; there = refl; same = same_Som
 
 -- ---- the entry with one range more
 
-pub uses_more : (r : Range) (page : ℕ) (o : PageOwner) → (noted r page o).uses ≡ o.uses + cond (meets r page) 1 0
-unfolding noted
+pub uses_more : (r : Range) (page : ℕ) (o : PageOwner) → (entered r page o).uses ≡ o.uses + cond (meets r page) 1 0
+unfolding entered
 uses_more r page o =
     elim (cases_Bool (meets r page)) [
       | inr off ↦ rw off (omega arith)
@@ -36,24 +36,24 @@ uses_more r page o =
     ]
 
 -- what the entry says stays where it has a use
-pub says_more : (r : Range) (page : ℕ) (o : PageOwner) (n : Range) → 0 < o.uses → Says o page n → Says (noted r page o) page n
-unfolding noted
+pub says_more : (r : Range) (page : ℕ) (o : PageOwner) (n : Range) → 0 < o.uses → Says o page n → Says (entered r page o) page n
+unfolding entered
 says_more r page o n some says =
     elim (cases_Bool (meets r page)) [
       | inr off ↦ rw off says
       | inl on ↦ rw (on, ne_eqb o.uses 0 (λ none. absurd (omega arith))) says
     ]
 
-says_new : (r : Range) (page : ℕ) (o : PageOwner) → meets r page ≡ true → (0 < o.uses → Says o page r) → Says (noted r page o) page r
-unfolding noted
+says_new : (r : Range) (page : ℕ) (o : PageOwner) → meets r page ≡ true → (0 < o.uses → Says o page r) → Says (entered r page o) page r
+unfolding entered
 says_new r page o on agrees =
     elim (cases_eq o.uses 0) [
       | inl none ↦ rw (on, eq-eqb o.uses 0 none) (refl, refl)
       | inr some ↦ (let says = agrees (omega arith) in rw (on, ne_eqb o.uses 0 some) says)
     ]
 
-none_more : (r : Range) (page : ℕ) (o : PageOwner) → (o.uses ≡ 0 → o ≡ free_page) → (noted r page o).uses ≡ 0 → noted r page o ≡ free_page
-unfolding noted
+none_more : (r : Range) (page : ℕ) (o : PageOwner) → (o.uses ≡ 0 → o ≡ free_page) → (entered r page o).uses ≡ 0 → entered r page o ≡ free_page
+unfolding entered
 none_more r page o free none =
     let uses = sym (uses_more r page o) ∙ none in
     elim (cases_Bool (meets r page)) [
@@ -65,12 +65,12 @@ none_more r page o free none =
 
 pub table_more : (table new : List PageOwner) (maps : List Mapping) (m : Mapping) → IsTable table maps
     → ((page : ℕ) (o : PageOwner) → slice_get table page ≡ Some o → meets m.range page ≡ true → 0 < o.uses → Says o page m.range)
-    → ((page : ℕ) → slice_get new page ≡ option_map (noted m.range page) (slice_get table page))
+    → ((page : ℕ) → slice_get new page ≡ option_map (entered m.range page) (slice_get table page))
     → IsTable new (maps ++ m ∷ [])
 table_more table new maps m is agrees each = record { counts = counts; says = says; none = none }
   where
-    at : (page : ℕ) (o : PageOwner) → slice_get new page ≡ Some o → Was (noted m.range page) (slice_get table page) o
-    at page o there = was (noted m.range page) (slice_get table page) o (slice_get new page) there (each page)
+    at : (page : ℕ) (o : PageOwner) → slice_get new page ≡ Some o → Was (entered m.range page) (slice_get table page) o
+    at page o there = was (entered m.range page) (slice_get table page) o (slice_get new page) there (each page)
 
     counts : (page : ℕ) (o : PageOwner) → slice_get new page ≡ Some o → o.uses ≡ count_by (λ n. meets n.range page) (maps ++ m ∷ [])
     counts page o there =
@@ -83,7 +83,7 @@ table_more table new maps m is agrees each = record { counts = counts; says = sa
     says : (page j : ℕ) (o : PageOwner) (n : Mapping) → slice_get new page ≡ Some o → slice_get (maps ++ m ∷ []) j ≡ Some n → meets n.range page ≡ true → Says o page n.range
     says page j o n there item meet =
         let w = at page o there in
-        let Reads : Mapping → Type 0 = λ x. meets x.range page ≡ true → Says (noted m.range page w.entry) page x.range in
+        let Reads : Mapping → Type 0 = λ x. meets x.range page ≡ true → Says (entered m.range page w.entry) page x.range in
         let old : (i : ℕ) (x : Mapping) → slice_get maps i ≡ Some x → Reads x = λ i x got on.
         let some = counted_found (λ (y : Mapping). meets y.range page) maps i x got on in
         let before = is.counts page w.entry w.there in
@@ -109,9 +109,9 @@ table_none pages = record {
         let within = slice_get_within (replicate pages free_page) page o there in
         sym (get_or_from_slice_get (replicate pages free_page) page o free_page there) ∙ get_or-replicate pages page free_page free_page (omega (arith, within, length-replicate pages free_page))
 
--- one mapping, noted where nothing was own
+-- one mapping, entered where nothing was own
 pub table_first : (table new : List PageOwner) (m : Mapping) → table ≡ replicate (length table) free_page
-    → ((page : ℕ) → slice_get new page ≡ option_map (noted m.range page) (slice_get table page))
+    → ((page : ℕ) → slice_get new page ≡ option_map (entered m.range page) (slice_get table page))
     → IsTable new (m ∷ [])
 table_first table new m is each =
     let blank : IsTable table [] = subst (λ (t : List PageOwner). IsTable t []) (sym is) (table_none (length table)) in

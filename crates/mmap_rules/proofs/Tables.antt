@@ -7,7 +7,7 @@ use Rattle.std.proofs.lemmas.Option.{slice_get_past, slice_get-get_or}
 use Rattle.std.proofs.lemmas.List.{get_or-set_same, get_or-set_other}
 use Rattle.mmap_rules.specs.declared.mapping.Range.{Range}
 use Rattle.mmap_rules.specs.declared.owners.PageOwner.{PageOwner}
-use Rattle.mmap_rules.specs.Owners.{IsShaped, distance, meets, noted, unnoted}
+use Rattle.mmap_rules.specs.Owners.{IsShaped, distance, meets, entered, taken_out}
 
 -- ---- one item of a list set
 
@@ -32,13 +32,13 @@ set_elsewhere {X} xs at v k other =
 abbrev pub LeavesMissed : (Range → ℕ → PageOwner → PageOwner) → Type 0
 LeavesMissed f = (r : Range) (page : ℕ) (o : PageOwner) → meets r page ≡ false → f r page o ≡ o
 
-pub noted_missed : LeavesMissed noted
-unfolding noted
-noted_missed r page o misses = rw misses refl
+pub entered_missed : LeavesMissed entered
+unfolding entered
+entered_missed r page o misses = rw misses refl
 
-pub unnoted_missed : LeavesMissed unnoted
-unfolding unnoted
-unnoted_missed r page o misses = rw misses refl
+pub taken_out_missed : LeavesMissed taken_out
+unfolding taken_out
+taken_out_missed r page o misses = rw misses refl
 
 option_same : (f : PageOwner → PageOwner) (o : Option PageOwner) → ((x : PageOwner) → f x ≡ x) → option_map f o ≡ o
 option_same f None same = refl

@@ -3,7 +3,7 @@
 -- Held      what is kept of a space beside its bytes, and how it changes
 -- Want      what mmap2 asks for
 -- Mappings  mappings that come and go
--- Sides     what mapping and unmapping change
+-- MapState  what mapping and unmapping change
 -- Chosen    what `map` chooses
 -- Copies    copies hold their file
 pub mod Space
@@ -11,6 +11,6 @@ pub mod Owners
 pub mod Held
 pub mod Want
 pub mod Mappings
-pub mod Sides
+pub mod MapState
 pub mod Chosen
 pub mod Copies

@@ -54,8 +54,8 @@ meets r page = nat_lt (max (distance r) (page_size * page)) (min (distance r + r
 
 -- the entry of a page with one range more: the first that meets it says which bytes are own, and where two meet one page
 -- they agree
-unfoldable pub noted : Range → ℕ → PageOwner → PageOwner
-noted r page o =
+unfoldable pub entered : Range → ℕ → PageOwner → PageOwner
+entered r page o =
     if not (meets r page) then o
     else if o.uses == 0 then record { from = distance r - page_size * page; write = r.writes; uses = 1 }
     else record { from = o.from; write = o.write; uses = o.uses + 1 }
@@ -63,8 +63,8 @@ noted r page o =
 -- ---- a range less
 
 -- the entry of a page with one range less: the last one that meets it leaves nothing of the page own
-unfoldable pub unnoted : Range → ℕ → PageOwner → PageOwner
-unnoted r page o =
+unfoldable pub taken_out : Range → ℕ → PageOwner → PageOwner
+taken_out r page o =
     if not (meets r page) then o
     else if nat_le o.uses 1 then free_page
     else record o { uses = o.uses - 1 }

@@ -16,7 +16,7 @@ ghost use Rattle.mmap_rules.specs.Want.{AsksPages};
 ghost use Rattle.mmap_rules.specs.Copies.{AllHold, IsKnown, pages_at, pages_of, wanted_bytes};
 ghost use Rattle.mmap_rules.specs.Mappings.{run_mapping, part_mapping, copied_from, filled, page_at, IsNewRun, CopyHas, CanAdd};
 ghost use Rattle.mmap_rules.specs.Chosen.{part_at, part_for, new_run, bytes_copied, file_source};
-ghost use Rattle.mmap_rules.specs.Sides.{Sides, sides, mapped, in_fresh_run, in_copy, file_in, Maps, NameRegions, AreFew};
+ghost use Rattle.mmap_rules.specs.MapState.{MapState, map_state, mapped, in_fresh_run, in_copy, file_in, Maps, NameRegions, AreFew};
 
 use crate::mapping::{Mapping, Range};
 use crate::owners::Owners;
@@ -99,7 +99,7 @@ fn pages_of(want: Want) -> u32
 /// Whether what is wanted would be mapped now: a copy that is there has its pages, or a free run is long enough. Nothing is done.
 pub fn fits(regions: &Regions, want: Want) -> bool
     requires { AsksPages want }
-    ensures { (s : Sides) → (kind : Kind) → (bytes : List ℕ) → s.regions ≡ regions.now.regions → result ≡ is_some (mapped s kind bytes want) }
+    ensures { (s : MapState) → (kind : Kind) → (bytes : List ℕ) → s.regions ≡ regions.now.regions → result ≡ is_some (mapped s kind bytes want) }
 {
     part_for(regions, want).is_some() || regions.fits(pages_of(want))
 }
@@ -267,7 +267,7 @@ impl Space {
         requires some { 0 < pages }
         requires live { Lives regions.old copy }
         requires copy { CopyHas regions.old.regions (start_of regions.old copy) first pages }
-        ensures maps { (mem : List ℕ) → Maps (in_copy (sides self.old regions.old.regions mem) first pages (region_of regions.old copy)) (sides self.old regions.old.regions mem) (sides self.new regions.new.regions mem) result }
+        ensures maps { (mem : List ℕ) → Maps (in_copy (map_state self.old regions.old.regions mem) first pages (region_of regions.old copy)) (map_state self.old regions.old.regions mem) (map_state self.new regions.new.regions mem) result }
         ensures ids { regions.new.starts ≡ regions.old.starts }
     {
         make_room(&mut self.maps, 1)?;
@@ -296,7 +296,7 @@ impl Space {
         requires few { AreFew regions.old.regions }
         requires run { IsNewRun run.now.pages run.now.writes run.now.anonymous run.now.source }
         requires bytes { length bytes.now ≤ 4096 * run.now.pages }
-        ensures maps { Maps (in_fresh_run (sides self.old regions.old.regions mem.old) (kind_of chooser.now) run.now.pages run.now.writes run.now.anonymous run.now.source (filled (4096 * run.now.pages) bytes.now)) (sides self.old regions.old.regions mem.old) (sides self.new regions.new.regions mem.new) result }
+        ensures maps { Maps (in_fresh_run (map_state self.old regions.old.regions mem.old) (kind_of chooser.now) run.now.pages run.now.writes run.now.anonymous run.now.source (filled (4096 * run.now.pages) bytes.now)) (map_state self.old regions.old.regions mem.old) (map_state self.new regions.new.regions mem.new) result }
         ensures refused { is_some (place (kind_of chooser.now) (free_of regions.old.regions).runs run.now.pages) ≡ false → result ≡ Err Enomem }
         ensures ids { regions.new.starts ≡ regions.old.starts }
     {
@@ -333,8 +333,8 @@ impl Space {
         requires names { NameRegions regions.old.regions self.old.maps }
         requires few { AreFew regions.old.regions }
         requires want { AsksPages want }
-        ensures maps { Maps (mapped (sides self.old regions.old.regions mem.old) (kind_of chooser.now) (bytes_of tree.now (file_in want)) want) (sides self.old regions.old.regions mem.old) (sides self.new regions.new.regions mem.new) result }
-        ensures refused { mapped (sides self.old regions.old.regions mem.old) (kind_of chooser.now) (bytes_of tree.now (file_in want)) want ≡ None → result ≡ Err Enomem }
+        ensures maps { Maps (mapped (map_state self.old regions.old.regions mem.old) (kind_of chooser.now) (bytes_of tree.now (file_in want)) want) (map_state self.old regions.old.regions mem.old) (map_state self.new regions.new.regions mem.new) result }
+        ensures refused { mapped (map_state self.old regions.old.regions mem.old) (kind_of chooser.now) (bytes_of tree.now (file_in want)) want ≡ None → result ≡ Err Enomem }
         ensures ids { regions.new.starts ≡ regions.old.starts }
         ensures copies { AllHold regions.old.regions mem.old tree.now → IsKnown tree.now want → AllHold regions.new.regions mem.new tree.now }
         ensures bytes { AllHold regions.old.regions mem.old tree.now → IsKnown tree.now want → IfOk result (λ addr. pages_at mem.new (page_at addr) (pages_of want) ≡ wanted_bytes tree.now want) }

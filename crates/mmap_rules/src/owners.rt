@@ -2,7 +2,7 @@
 ghost use Rattle.std.specs.Prelude.{◌≡◌, ◌+◌, ◌*◌, ◌-◌, ◌^◌, ◌<◌, ◌≤◌, ◌⊎◌, ℕ, length, slice_get, replicate, option_map, IfOk, Some};
 ghost use Rattle.mmap_rules.specs.declared.owners.PageOwner.{PageOwner};
 ghost use Rattle.mmap_rules.specs.Space.{may_use};
-ghost use Rattle.mmap_rules.specs.Owners.{owns, owns_at, free_page, touched, IsShaped, noted, unnoted};
+ghost use Rattle.mmap_rules.specs.Owners.{owns, owns_at, free_page, touched, IsShaped, entered, taken_out};
 
 use crate::mapping::Range;
 use crate::steps::Steps;
@@ -46,12 +46,12 @@ impl Model for Owners {
 }
 
 /// The entry of a page with one range more.
-#[tactic(auto, unfolding(crate::specs::Owners::noted))]
-fn noted(range: &Range, page: u32, owner: PageOwner) -> PageOwner
+#[tactic(auto, unfolding(crate::specs::Owners::entered))]
+fn entered(range: &Range, page: u32, owner: PageOwner) -> PageOwner
     requires above { 2 ^ 31 ≤ range.now.from }
     requires page { page < 16384 }
     requires uses { owner.uses < 2 ^ 32 - 1 }
-    ensures { result ≡ noted range.now page owner }
+    ensures { result ≡ entered range.now page owner }
 {
     let from = u64::from(range.from - BASE);
     let to = from + u64::from(range.size);
@@ -78,23 +78,23 @@ fn add_range(entries: &mut [PageOwner], range: &Range)
     requires few { length entries.old ≤ 16384 }
     requires uses { (p : ℕ) → (o : PageOwner) → slice_get entries.old p ≡ Some o → o.uses < 2 ^ 32 - 1 }
     ensures len { length entries.new ≡ length entries.old }
-    ensures each { (p : ℕ) → slice_get entries.new p ≡ option_map (noted range.now p) (slice_get entries.old p) }
+    ensures each { (p : ℕ) → slice_get entries.new p ≡ option_map (entered range.now p) (slice_get entries.old p) }
 {
     let from = u64::from(range.from - BASE);
     let first = (from / PAGE) as u32;
     let end = ((from + u64::from(range.size)) / PAGE) as u32;
     for page in first..end {
         let owner = entries[page as usize];
-        entries[page as usize] = noted(range, page, owner);
+        entries[page as usize] = entered(range, page, owner);
     }
 }
 
 /// The entry of a page with one range less.
-#[tactic(auto, unfolding(crate::specs::Owners::unnoted))]
-fn unnoted(range: &Range, page: u32, owner: PageOwner) -> PageOwner
+#[tactic(auto, unfolding(crate::specs::Owners::taken_out))]
+fn taken_out(range: &Range, page: u32, owner: PageOwner) -> PageOwner
     requires above { 2 ^ 31 ≤ range.now.from }
     requires page { page < 16384 }
-    ensures { result ≡ unnoted range.now page owner }
+    ensures { result ≡ taken_out range.now page owner }
 {
     let from = u64::from(range.from - BASE);
     let to = from + u64::from(range.size);
@@ -115,19 +115,19 @@ fn unnoted(range: &Range, page: u32, owner: PageOwner) -> PageOwner
     }
 }
 
-/// Takes a range off the entries of the pages that it touches.
+/// Takes a range out of the entries of the pages that it touches.
 fn remove_range(entries: &mut [PageOwner], range: &Range)
     requires shaped { IsShaped (length entries.old) range.now }
     requires few { length entries.old ≤ 16384 }
     ensures len { length entries.new ≡ length entries.old }
-    ensures each { (p : ℕ) → slice_get entries.new p ≡ option_map (unnoted range.now p) (slice_get entries.old p) }
+    ensures each { (p : ℕ) → slice_get entries.new p ≡ option_map (taken_out range.now p) (slice_get entries.old p) }
 {
     let from = u64::from(range.from - BASE);
     let first = (from / PAGE) as u32;
     let end = ((from + u64::from(range.size)) / PAGE) as u32;
     for page in first..end {
         let owner = entries[page as usize];
-        entries[page as usize] = unnoted(range, page, owner);
+        entries[page as usize] = taken_out(range, page, owner);
     }
 }
 
@@ -155,21 +155,21 @@ impl Owners {
         })
     }
 
-    /// Notes a range whose pages are in memory, and which ends where a page ends.
+    /// Enters a range whose pages are in memory, and which ends where a page ends.
     pub fn add(&mut self, range: &Range)
         requires shaped { IsShaped (length self.old) range.now }
         requires uses { (p : ℕ) → (o : PageOwner) → slice_get self.old p ≡ Some o → o.uses < 2 ^ 32 - 1 }
         ensures len { length self.new ≡ length self.old }
-        ensures each { (p : ℕ) → slice_get self.new p ≡ option_map (noted range.now p) (slice_get self.old p) }
+        ensures each { (p : ℕ) → slice_get self.new p ≡ option_map (entered range.now p) (slice_get self.old p) }
     {
         add_range(&mut self.entries, range);
     }
 
-    /// Takes off a range that was noted.
+    /// Takes out a range that was entered.
     pub fn remove(&mut self, range: &Range)
         requires shaped { IsShaped (length self.old) range.now }
         ensures len { length self.new ≡ length self.old }
-        ensures each { (p : ℕ) → slice_get self.new p ≡ option_map (unnoted range.now p) (slice_get self.old p) }
+        ensures each { (p : ℕ) → slice_get self.new p ≡ option_map (taken_out range.now p) (slice_get self.old p) }
     {
         remove_range(&mut self.entries, range);
     }

@@ -6,7 +6,7 @@ ghost use Rattle.mmap_rules.specs.declared.mapping.Mapping.{Mapping};
 ghost use Rattle.mmap_rules.specs.Owners.{IsTable};
 ghost use Rattle.mmap_rules.specs.Held.{AreMappings, places_of};
 ghost use Rattle.mmap_rules.specs.Mappings.{is_range, can_lose, part_of, left_of, hit};
-ghost use Rattle.mmap_rules.specs.Sides.{freed, unmapped, Unmaps, OthersKeepIds, NameRegions};
+ghost use Rattle.mmap_rules.specs.MapState.{freed, unmapped, Unmaps, OthersKeepIds, NameRegions};
 
 use crate::mapping::{Mapping, Range};
 use crate::owners::Owners;

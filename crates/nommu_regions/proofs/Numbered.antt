@@ -10,7 +10,7 @@ use Rattle.std.proofs.lemmas.Option.{same_Some, slice_get_within, slice_get_read
 use Rattle.page_runs.specs.Free.{Free, with_free}
 use Rattle.nommu_regions.specs.declared.region.Region.{Region}
 use Rattle.nommu_regions.specs.Regions.{holds, AreRegions, AreFree, IsLive, CanCut, HaveFreeRuns, free_behind, free_of, with_uses, before, behind, with_cut}
-use Rattle.nommu_regions.specs.Ids.{Numbered, AreInverse, IdsBehind, Lives, OthersStay, UpperPart, has_both, has_upper, kept_part, region_of, start_of}
+use Rattle.nommu_regions.specs.Ids.{Numbered, AreInverse, IdsBehind, Lives, OthersRemain, UpperPart, has_both, has_upper, kept_part, region_of, start_of}
 use Rattle.nommu_regions.proofs.Held.{held_by}
 use Rattle.nommu_regions.proofs.Kept.{get_set, get_other, live_set}
 use Rattle.nommu_regions.proofs.Cut.{IsCut, is_cut, cut_lower, cut_upper, cut_other, freed}
@@ -86,13 +86,13 @@ region_new rs starts now page id v same here less =
     rw (length-set rs page v, mine) (get_set rs page v less)
 
 pub others_set : (rs : List Region) (ids starts : List ℕ) (now : Numbered) (id f : ℕ) (v : Region) → table rs starts ≡ now → AreInverse ids starts (length rs) →
-    ((other : ℕ) → other ≢ id → IsLive rs (get_or starts other (length rs)) → get_or starts other (length rs) ≢ f) → OthersStay id now (table (slice_set rs f v) starts)
+    ((other : ℕ) → other ≢ id → IsLive rs (get_or starts other (length rs)) → get_or starts other (length rs) ≢ f) → OthersRemain id now (table (slice_set rs f v) starts)
 others_set rs ids starts now id f v same is away other differs live =
     let lives = lives_at rs starts now other same live in
     rw (← same, length-set rs f v) (get_other rs f (get_or starts other (length rs)) v (away other differs lives))
 
 pub others_stay : (rs : List Region) (ids starts : List ℕ) (now : Numbered) (id f : ℕ) (x v : Region) → AreInverse ids starts (length rs) → At rs starts now id f x →
-    OthersStay id now (table (slice_set rs f v) starts)
+    OthersRemain id now (table (slice_set rs f v) starts)
 others_stay rs ids starts now id f x v is at =
     others_set rs ids starts now id f v at.same is (λ other differs lives e.
     apart rs ids starts id other is (rw at.mine (record { region = x; there = at.there; live = at.live })) lives differs (e ∙ sym at.mine))
@@ -170,7 +170,7 @@ some_upper rs new ids starts now id f x from count upper at cut inverse is len b
     (grind (arith, nat_tests), rw (len, read, inverse.back (from + count) (omega arith), is) (cut_upper rs f x from count cut inside more))
 
 pub others_cut : (rs new : List Region) (ids starts : List ℕ) (now : Numbered) (id f : ℕ) (x : Region) (from count : ℕ) → At rs starts now id f x → IsCut rs f x from count →
-    AreInverse ids starts (length rs) → AreRegions rs → new ≡ with_cut rs f from count → length new ≡ length rs → OthersStay id now (table new starts)
+    AreInverse ids starts (length rs) → AreRegions rs → new ≡ with_cut rs f from count → length new ≡ length rs → OthersRemain id now (table new starts)
 others_cut rs new ids starts now id f x from count at cut inverse regions is len other differs live =
     let lives = lives_at rs starts now other at.same live in
     let away = apart rs ids starts id other inverse (rw at.mine (record { region = x; there = at.there; live = at.live })) lives differs in
@@ -197,7 +197,7 @@ part_upper rs new ids starts st now id f x from count upper at cut inverse is le
 
 pub others_swapped : (rs new : List Region) (ids starts st : List ℕ) (now : Numbered) (id f : ℕ) (x : Region) (from count upper : ℕ) → At rs starts now id f x → IsCut rs f x from count →
     AreInverse ids starts (length rs) → AreRegions rs → new ≡ with_cut rs f from count → length new ≡ length rs → x.first ≡ f → x.first + x.pages ≤ length rs → from + count < x.first + x.pages →
-    id < length rs → upper ≡ get_or ids (from + count) (length rs) → st ≡ swap starts id upper → OthersStay id now (table new st)
+    id < length rs → upper ≡ get_or ids (from + count) (length rs) → st ≡ swap starts id upper → OthersRemain id now (table new st)
 others_swapped rs new ids starts st now id f x from count upper at cut inverse regions is len begins inside more less read swaps other differs live =
     let lives = lives_at rs starts now other at.same live in
     let away = apart rs ids starts id other inverse (rw at.mine (record { region = x; there = at.there; live = at.live })) lives differs in

@@ -27,8 +27,8 @@ pub record AreIds (s : Numbered) : Type 0 where
   pub one : (i j : ℕ) → i < length s.starts → j < length s.starts → start_of s i ≡ start_of s j → i ≡ j
 
 -- the live region of every other id stays as it is, and keeps its id
-abbrev pub OthersStay : ℕ → (old new : Numbered) → Type 0
-OthersStay id old new = (other : ℕ) → other ≢ id → Lives old other → region_of new other ≡ region_of old other
+abbrev pub OthersRemain : ℕ → (old new : Numbered) → Type 0
+OthersRemain id old new = (other : ℕ) → other ≢ id → Lives old other → region_of new other ≡ region_of old other
 
 -- ---- pages that are cut out of a region
 

@@ -8,7 +8,7 @@ ghost use Rattle.page_runs.specs.Choosers.{IsChooser, kind_of};
 ghost use Rattle.page_runs.specs.Free.{with_free, without};
 ghost use Rattle.page_runs.specs.Place.{Gets, place, first_of};
 ghost use Rattle.nommu_regions.specs.Regions.{AreRegions, AreFree, IsLive, HaveFreeRuns, CanCut, copy_of, covers, free_behind, free_of, with_cut, with_uses, uses_of};
-ghost use Rattle.nommu_regions.specs.Ids.{AreIds, AreInverse, IdsBehind, Lives, OthersStay, UpperPart, kept_part, region_of, start_of};
+ghost use Rattle.nommu_regions.specs.Ids.{AreIds, AreInverse, IdsBehind, Lives, OthersRemain, UpperPart, kept_part, region_of, start_of};
 
 use crate::region::{Region, Source};
 use page_runs::{Chooser, Run, Runs, first_fit};
@@ -129,7 +129,7 @@ impl Regions {
         ensures live { IfSome result (λ id. Lives self.new id) }
         ensures region { IfSome result (λ id. region_of self.new id ≡ Some (record { first = start_of self.old id; pages = pages; source = source; uses = 1 })) }
         ensures regions { MatchOption result (self.new ≡ self.old) (λ id. self.new ≡ record self.old { regions = slice_set self.old.regions (start_of self.old id) (record { first = start_of self.old id; pages = pages; source = source; uses = 1 }) }) }
-        ensures others { IfSome result (λ id. OthersStay id self.old self.new) }
+        ensures others { IfSome result (λ id. OthersRemain id self.old self.new) }
         ensures memory { MatchOption result (mem.new ≡ mem.old) (λ id. mem.new ≡ laid mem.old (4096 * start_of self.old id) (replicate (4096 * pages) 0)) }
     {
         let first = self.free.take(pages, chooser)?;
@@ -159,7 +159,7 @@ impl Regions {
         requires few { uses_of self.old.regions (start_of self.old id) + 1 < 2 ^ 32 }
         ensures uses { self.new ≡ record self.old { regions = with_uses self.old.regions (start_of self.old id) (λ uses. uses + 1) } }
         ensures live { Lives self.new id }
-        ensures others { OthersStay id self.old self.new }
+        ensures others { OthersRemain id self.old self.new }
     {
         let first = self.starts[id as usize];
         self.regions[first as usize].uses += 1;
@@ -170,7 +170,7 @@ impl Regions {
         requires { Lives self.old id }
         ensures uses { self.new ≡ record self.old { regions = with_uses self.old.regions (start_of self.old id) (λ uses. uses - 1) } }
         ensures free { (r : Region) → region_of self.old id ≡ Some r → free_of self.new.regions ≡ free_behind r (free_of self.old.regions) }
-        ensures others { OthersStay id self.old self.new }
+        ensures others { OthersRemain id self.old self.new }
     {
         let first = self.starts[id as usize];
         let region = self.regions[first as usize];
@@ -193,7 +193,7 @@ impl Regions {
         ensures upper { (r : Region) → region_of self.old id ≡ Some r → UpperPart self.new r from count result }
         ensures upper_id { IfSome result (λ upper. start_of self.old upper ≡ from + count) }
         ensures ids { (r : Region) → region_of self.old id ≡ Some r → IdsBehind self.old self.new r id from count }
-        ensures others { OthersStay id self.old self.new }
+        ensures others { OthersRemain id self.old self.new }
         ensures live { Lives self.new id }
         ensures upper_lives { IfSome result (λ upper. Lives self.new upper) }
     {

@@ -7,7 +7,7 @@ use Rattle.rv32im_step.specs.Meaning.{Meaning, next, call, trap, refused}
 use Rattle.call_log.specs.declared.errno.Errno.{Errno}
 use Rattle.call_log.specs.declared.how.Seen.{Seen}
 use Rattle.call_log.specs.Errno.{refusal}
-use Rattle.call_log.specs.Notes.{Written, stray_note}
+use Rattle.call_log.specs.Notes.{GotRange, stray_note}
 use Rattle.call_log.specs.Sent.{Span, sent}
 use Rattle.mmap_rules.specs.Space.{Space}
 use Rattle.vfork_exec.specs.declared.family.Who.{Who}
@@ -27,7 +27,7 @@ use Rattle.machine_world.specs.Event.{Outcome, went, strays, full, idle, noted, 
 use Rattle.machine_world.specs.Turns.{seen_of}
 use Rattle.machine_world.proofs.Kept.{Answers}
 use Rattle.machine_world.proofs.ByEvents.{Keeps, Answered, Happened, by_classed}
-use Rattle.physical_turns.specs.Physical.{Physical, in_memory, showing, laid_behind, After, after, no_room, nobody, carried, settled_in, outside, killed, put_in, answered_in, full_at, reaped_in, waitid_behind_in, waitid_in, writes_nothing, classed_in, asked_in, answer_in, effect_in, in_space, by_process, at_process, next_meaning, carried_out, first_stray, with_stray, physical_event}
+use Rattle.physical_turns.specs.Physical.{Physical, in_memory, showing, laid_behind, After, after, no_room, nobody, carried, settled_in, outside, killed, put_in, answered_in, full_at, reaped_in, waitid_behind_in, waitid_in, writes_nothing, classed_in, asked_in, answer_in, effect_in, in_space_in, by_process_in, at_process_in, next_meaning, carried_out, first_stray_in, with_stray, event_in}
 use Rattle.physical_turns.specs.After.{AfterHas}
 
 after_if : (P : World → Type 0) (test : Bool) (x y : After) → AfterHas P x → AfterHas P y → AfterHas P (if test then x else y)
@@ -95,7 +95,7 @@ module _ (P : World → Type 0) (Q : World → Rest → Type 0) (steady : Steady
       by_put_in r (Ok memory) holds = by_carried p memory (served p.world the_ask r r.space.bytes) h (rw is (by_served ended r r.space.bytes holds))
       by_put_in r (Err span) holds = by_killed p q s outside h
 
-      by_gives_in : (value : ℕ) (got : List Written) → AfterHas P (answered_in p the_ask (gives the_ask value got w.rest))
+      by_gives_in : (value : ℕ) (got : List GotRange) → AfterHas P (answered_in p the_ask (gives the_ask value got w.rest))
       by_gives_in value got =
           by_put_in (record { value = value; got = got; rest = w.rest; space = s; over = false }) (put_got p.memory (in_memory p.world) got) (steady.rests w begun)
 
@@ -154,24 +154,24 @@ module _ (P : World → Type 0) (Q : World → Rest → Type 0) (steady : Steady
   by_effect_in p q s (trap signal) h = by_settled_in (killed p q signal) (by_killed p q s signal h)
   by_effect_in p q s (refused access) h = by_settled_in (killed p q outside) (by_killed p q s outside h)
 
-  by_space_in : (p : Physical) (act : Process → Space → After) → ((q : Process) (s : Space) → AfterHas P (act q s)) → (q : Process) (o : Option LiveSpace) → AfterHas P (in_space act q o)
+  by_space_in : (p : Physical) (act : Process → Space → After) → ((q : Process) (s : Space) → AfterHas P (act q s)) → (q : Process) (o : Option LiveSpace) → AfterHas P (in_space_in act q o)
   by_space_in p act acts q None = tt
   by_space_in p act acts q (Some s) = acts q s.space
 
-  by_process_in : (p : Physical) (act : Process → Space → After) → ((q : Process) (s : Space) → AfterHas P (act q s)) → (o : Option Process) → AfterHas P (by_process p.world.spaces act o)
-  by_process_in p act acts None = tt
-  by_process_in p act acts (Some q) = by_space_in p act acts q (find id_of q.space p.world.spaces)
+  by_found_in : (p : Physical) (act : Process → Space → After) → ((q : Process) (s : Space) → AfterHas P (act q s)) → (o : Option Process) → AfterHas P (by_process_in p.world.spaces act o)
+  by_found_in p act acts None = tt
+  by_found_in p act acts (Some q) = by_space_in p act acts q (find id_of q.space p.world.spaces)
 
-  by_act_in : (p : Physical) (pid : ℕ) (act : Process → Space → After) → ((q : Process) (s : Space) → AfterHas P (act q s)) → AfterHas P (at_process p pid act)
-  unfolding at_process
-  by_act_in p pid act acts = by_process_in p act acts (find pid_of pid p.world.procs)
+  by_act_in : (p : Physical) (pid : ℕ) (act : Process → Space → After) → ((q : Process) (s : Space) → AfterHas P (act q s)) → AfterHas P (at_process_in p pid act)
+  unfolding at_process_in
+  by_act_in p pid act acts = by_found_in p act acts (find pid_of pid p.world.procs)
 
   by_stray_in : (p : Physical) (pid : ℕ) (o : Option Access) → P p.world → P (with_stray pid o p).world
   by_stray_in p pid None h = h
   by_stray_in p pid (Some access) h = steady.strays pid (seen_of access) p.world h
 
-  pub by_event_in : (p : Physical) (pid : ℕ) → P p.world → AfterHas P (physical_event p pid)
-  unfolding physical_event carried_out
+  pub by_event_in : (p : Physical) (pid : ℕ) → P p.world → AfterHas P (event_in p pid)
+  unfolding event_in carried_out
   by_event_in p pid h =
-      let now : Physical = with_stray pid (first_stray p pid) p in
-      by_act_in now pid (λ q s. effect_in now q s (next_meaning now q)) (λ q s. by_effect_in now q s (next_meaning now q) (by_stray_in p pid (first_stray p pid) h))
+      let now : Physical = with_stray pid (first_stray_in p pid) p in
+      by_act_in now pid (λ q s. effect_in now q s (next_meaning now q)) (λ q s. by_effect_in now q s (next_meaning now q) (by_stray_in p pid (first_stray_in p pid) h))

@@ -18,7 +18,7 @@ use Rattle.machine_world.specs.Programs.{AreLoaded}
 use Rattle.machine_world.proofs.Kept.{Kept}
 use Rattle.machine_world.proofs.ByRows.{by_rows}
 use Rattle.machine_world.proofs.ByEvents.{Answered, Happened}
-use Rattle.physical_turns.specs.Physical.{Physical, After, after, no_room, nobody, physical_event, physical_turn, physical_turns}
+use Rattle.physical_turns.specs.Physical.{Physical, After, after, no_room, nobody, event_in, turn_in, turns_in}
 use Rattle.physical_turns.specs.After.{AfterHas}
 use Rattle.physical_turns.specs.Growth.{Adds, EventsAdd, TurnsAdd, RunsAdd, LeavesPrograms, EventsLeavePrograms, TurnsLeavePrograms, RunsLeavePrograms}
 use Rattle.physical_turns.proofs.ByTurnsIn.{by_turn_in, by_run_in}
@@ -148,7 +148,7 @@ module _ (old : World) where
     rows = λ w q s bytes h. by_rows OutsideOf (ask_of w q s bytes) (rows_since (ask_of w q s bytes) h.0) h.0;
   }
 
-  events_since : (p : Physical) (pid : ℕ) → Since p.world → AfterHas Since (physical_event p pid)
+  events_since : (p : Physical) (pid : ℕ) → Since p.world → AfterHas Since (event_in p pid)
   events_since = by_event_in Since (λ w. OutsideOf) steady
 
   -- what it says of a world
@@ -166,20 +166,20 @@ module _ (old : World) where
 -- ---- events, turns and runs
 
 pub events_add : EventsAdd
-events_add p pid = each_after p.world (Adds p.world) (adds p.world) (physical_event p pid) (events_since p.world p pid (begun p.world))
+events_add p pid = each_after p.world (Adds p.world) (adds p.world) (event_in p pid) (events_since p.world p pid (begun p.world))
 
 pub turns_add : TurnsAdd
-turns_add count pid p = adds p.world (physical_turn count pid p).now.world (by_turn_in (λ now. Since p.world now.world) (events_since p.world) count pid p (begun p.world))
+turns_add count pid p = adds p.world (turn_in count pid p).now.world (by_turn_in (λ now. Since p.world now.world) (events_since p.world) count pid p (begun p.world))
 
 pub runs_add : RunsAdd
-runs_add quanta p = adds p.world (physical_turns quanta p).now.world (by_run_in (λ now. Since p.world now.world) (events_since p.world) quanta p (begun p.world))
+runs_add quanta p = adds p.world (turns_in quanta p).now.world (by_run_in (λ now. Since p.world now.world) (events_since p.world) quanta p (begun p.world))
 
 pub events_leave_programs : EventsLeavePrograms
 events_leave_programs p pid =
-    each_after p.world (LeavesPrograms p.world) (leaves p.world) (physical_event p pid) (events_since p.world p pid (begun p.world))
+    each_after p.world (LeavesPrograms p.world) (leaves p.world) (event_in p pid) (events_since p.world p pid (begun p.world))
 
 pub turns_leave_programs : TurnsLeavePrograms
-turns_leave_programs count pid p = leaves p.world (physical_turn count pid p).now.world (by_turn_in (λ now. Since p.world now.world) (events_since p.world) count pid p (begun p.world))
+turns_leave_programs count pid p = leaves p.world (turn_in count pid p).now.world (by_turn_in (λ now. Since p.world now.world) (events_since p.world) count pid p (begun p.world))
 
 pub runs_leave_programs : RunsLeavePrograms
-runs_leave_programs quanta p = leaves p.world (physical_turns quanta p).now.world (by_run_in (λ now. Since p.world now.world) (events_since p.world) quanta p (begun p.world))
+runs_leave_programs quanta p = leaves p.world (turns_in quanta p).now.world (by_run_in (λ now. Since p.world now.world) (events_since p.world) quanta p (begun p.world))

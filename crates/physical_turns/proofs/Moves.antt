@@ -17,7 +17,7 @@ use Rattle.machine_world.specs.Courses.{moved}
 use Rattle.machine_world.specs.Recordings.{is_recorded}
 use Rattle.machine_world.proofs.Raised.{raised_twice}
 use Rattle.machine_world.proofs.States.{with_regs, with_own, change_twice, lives_moved, has_moved, not_moved, event_is}
-use Rattle.physical_turns.specs.Physical.{Physical, After, in_memory, shown_space, showing, settled_in, outside, killed, answer_in, moved_in, effect_in, at_process, next_meaning, carried_out, called_in, died_in, has_stray, first_stray, with_stray, physical_event}
+use Rattle.physical_turns.specs.Physical.{Physical, After, in_memory, shown_space, showing, settled_in, outside, killed, answer_in, moved_in, effect_in, at_process_in, next_meaning, carried_out, called_in, died_in, has_stray, first_stray_in, with_stray, event_in}
 use Rattle.physical_turns.specs.Wider.{IsWithin, Widens}
 use Rattle.physical_turns.specs.Courses.{IsShown}
 use Rattle.physical_turns.proofs.Widened.{wide_meaning}
@@ -85,41 +85,41 @@ module _ (p : Physical) (pid : ℕ) (q : Process) (s : LiveSpace) (lives : find 
   found_is_shown shown = let both = sym (found_shown shown) ∙ has in cc
 
   -- what comes of an act
-  pub acts_in : (act : Process → Space → After) → at_process p pid act ≡ act q s.space
-  unfolding at_process
+  pub acts_in : (act : Process → Space → After) → at_process_in p pid act ≡ act q s.space
+  unfolding at_process_in
   acts_in act = rw (lives, has) refl
 
   -- and of an event that isn't the first that strays
-  pub event_in_is : first_stray p pid ≡ None → physical_event p pid ≡ effect_in p q s.space (next_meaning p q)
-  unfolding physical_event carried_out
+  pub event_in_is : first_stray_in p pid ≡ None → event_in p pid ≡ effect_in p q s.space (next_meaning p q)
+  unfolding event_in carried_out
   event_in_is none =
       ap (λ (o : Option Access). carried_out (with_stray pid o p) pid) none ∙ acts_in (λ o l. effect_in p o l (next_meaning p o))
 
   -- an instruction that is carried out over the process's own bytes doesn't stray
-  pub steps_unstrayed : (after : Regs) (now : Bytes) → meaning q.regs s.space.bytes (writable_in s.space.maps) ≡ next after now → first_stray p pid ≡ None
+  pub steps_unstrayed : (after : Regs) (now : Bytes) → meaning q.regs s.space.bytes (writable_in s.space.maps) ≡ next after now → first_stray_in p pid ≡ None
   unfolding stray stepped
   steps_unstrayed after now is =
       let none : stray p.world pid ≡ None = ap stray_in (event_is p.world pid q s lives has ∙ ap (effect p.world q s.space) is) in
       ap (λ (o : Option Access). if has_stray p.world.notes then None else o) none ∙ same_both (has_stray p.world.notes) None
 
 -- nor does any, once one was noted
-pub noted_unstrayed : (p : Physical) (pid : ℕ) → has_stray p.world.notes ≡ true → first_stray p pid ≡ None
+pub noted_unstrayed : (p : Physical) (pid : ℕ) → has_stray p.world.notes ≡ true → first_stray_in p pid ≡ None
 noted_unstrayed p pid was = rw was refl
 
 -- where none was noted it is the one of the world that memory shows
-pub first_strays : (p : Physical) (pid : ℕ) (access : Access) → has_stray p.world.notes ≡ false → stray p.world pid ≡ Some access → first_stray p pid ≡ Some access
+pub first_strays : (p : Physical) (pid : ℕ) (access : Access) → has_stray p.world.notes ≡ false → stray p.world pid ≡ Some access → first_stray_in p pid ≡ Some access
 first_strays p pid access none is = rw (none, is) refl
 
 -- it is noted, and then carried out as any other
-pub event_in_carried : (p : Physical) (pid : ℕ) → physical_event p pid ≡ carried_out (with_stray pid (first_stray p pid) p) pid
-unfolding physical_event
+pub event_in_carried : (p : Physical) (pid : ℕ) → event_in p pid ≡ carried_out (with_stray pid (first_stray_in p pid) p) pid
+unfolding event_in
 event_in_carried p pid = refl
 
-pub event_in_strays : (p : Physical) (pid : ℕ) (access : Access) → first_stray p pid ≡ Some access
-    → physical_event p pid ≡ carried_out (record p { world = noted (stray_note pid (seen_of access)) p.world }) pid
+pub event_in_strays : (p : Physical) (pid : ℕ) (access : Access) → first_stray_in p pid ≡ Some access
+    → event_in p pid ≡ carried_out (record p { world = noted (stray_note pid (seen_of access)) p.world }) pid
 event_in_strays p pid access is = event_in_carried p pid ∙ ap (λ (o : Option Access). carried_out (with_stray pid o p) pid) is
 
-pub event_in_calm : (p : Physical) (pid : ℕ) → first_stray p pid ≡ None → physical_event p pid ≡ carried_out p pid
+pub event_in_calm : (p : Physical) (pid : ℕ) → first_stray_in p pid ≡ None → event_in p pid ≡ carried_out p pid
 event_in_calm p pid none = event_in_carried p pid ∙ ap (λ (o : Option Access). carried_out (with_stray pid o p) pid) none
 
 -- by the next instruction

@@ -5,7 +5,7 @@ use Rattle.machine_world.specs.Ages.{kept_calls}
 use Rattle.machine_world.specs.Order.{most_tables, IsInOrder}
 use Rattle.machine_world.proofs.InOrder.{IsOrderly}
 use Rattle.machine_world.proofs.OrderKept.{order_awake, orderly, act_order, rows_orderly}
-use Rattle.physical_turns.specs.Physical.{opening}
+use Rattle.physical_turns.specs.Physical.{opening_in}
 use Rattle.physical_turns.specs.Order.{OpeningsKeepOrder, EventsKeepOrderIn, TurnsKeepOrderIn, RunsKeepOrderIn}
 use Rattle.physical_turns.proofs.ByTurnsIn.{by_turn_in, by_run_in}
 use Rattle.physical_turns.proofs.ByEventsIn.{Steady, by_event_in}
@@ -29,7 +29,7 @@ steady = record {
 }
 
 pub openings_keep_order : OpeningsKeepOrder
-unfolding opening
+unfolding opening_in
 openings_keep_order headers w h = of_outside w _ refl refl h
 
 pub events_keep_order_in : EventsKeepOrderIn

@@ -44,7 +44,7 @@ use Rattle.machine_world.specs.Transfers.{write_row}
 use Rattle.machine_world.specs.Event.{ended, stepped, trapped, served, exited, answer, settled, at_process as private_process, event, stray}
 use Rattle.machine_world.specs.Turns.{End, all_ended, out_of_quanta}
 use Rattle.machine_world.specs.Boot.{StartLine, BootFault, started, all_started, boot}
-use Rattle.physical_turns.specs.Physical.{Walk, bytes_in, laid_behind, waitid_in, answer_in, at_process, carried_out, physical_event, physical_turn, physical_turns, first_memory, opening}
+use Rattle.physical_turns.specs.Physical.{WalkIn, bytes_in, laid_behind, waitid_in, answer_in, at_process_in, carried_out, event_in, turn_in, turns_in, first_memory, opening_in}
 
 -- a program of these words at number 64
 abbrev pub of_words : List ℕ → List ℕ → Program
@@ -122,7 +122,7 @@ pub record Saw : Type 0 where
   pub own : List (Option ℕ)
   pub end : Option End
 
-abbrev saw : List ℕ → Walk → Saw
+abbrev saw : List ℕ → WalkIn → Saw
 saw at w = record {
   console = w.now.world.rest.console;
   notes = reverse w.now.world.notes;
@@ -137,7 +137,7 @@ abbrev pub headers : List (List ℕ)
 headers = replicate 64 80 ∷ replicate 64 81 ∷ []
 
 abbrev run : List ℕ → List Quantum → Result World BootFault → Option Saw
-run at qs (Ok w) = Some (saw at (physical_turns qs (opening headers w)))
+run at qs (Ok w) = Some (saw at (turns_in qs (opening_in headers w)))
 run at qs (Err fault) = None
 
 -- the store goes into the other program's block, and the run goes on
@@ -152,7 +152,7 @@ run-stray_store :
       own = None ∷ None ∷ Some 0x7a ∷ None ∷ [];
       end = Some out_of_quanta;
     })
-unfolding number_at byte_at from_base decoded opcode funct3 funct7 rd rs1 rs2 imm_i imm_s imm_b imm_u imm_j loaded stored effect meaning register with_register free_runs place refusal has_room sent read_span writable_in own_in only may_use block_pages frame_len frame frame_start frame_fits begin_space begin_regs find change without ended_behind state_behind resumed spaces_left borrows all_left_by free_runs_in write_row row view closed with_table without_table all_descriptors pieces names is_too_long walked place_of ended stepped trapped served exited answer private_process event stray settled all_roused laid_behind waitid_in answer_in at_process carried_out physical_event physical_turn ready_pids picked physical_turns first_memory opening started all_started boot
+unfolding number_at byte_at from_base decoded opcode funct3 funct7 rd rs1 rs2 imm_i imm_s imm_b imm_u imm_j loaded stored effect meaning register with_register free_runs place refusal has_room sent read_span writable_in own_in only may_use block_pages frame_len frame frame_start frame_fits begin_space begin_regs find change without ended_behind state_behind resumed spaces_left borrows all_left_by free_runs_in write_row row view closed with_table without_table all_descriptors pieces names is_too_long walked place_of ended stepped trapped served exited answer private_process event stray settled all_roused laid_behind waitid_in answer_in at_process_in carried_out event_in turn_in ready_pids picked turns_in first_memory opening_in started all_started boot
 run-stray_store = refl
 
 -- an access outside memory is noted, and ends the process
@@ -166,7 +166,7 @@ run-outside_memory :
       own = None ∷ [];
       end = Some all_ended;
     })
-unfolding number_at byte_at from_base decoded opcode funct3 funct7 rd rs1 rs2 imm_i imm_s imm_b imm_u imm_j loaded stored effect meaning register with_register free_runs place refusal has_room sent read_span writable_in own_in only may_use block_pages frame_len frame frame_start frame_fits begin_space begin_regs find change without ended_behind state_behind resumed spaces_left borrows all_left_by free_runs_in write_row row view closed with_table without_table all_descriptors pieces names is_too_long walked place_of ended stepped trapped served exited answer private_process event stray settled all_roused laid_behind waitid_in answer_in at_process carried_out physical_event physical_turn ready_pids picked physical_turns first_memory opening started all_started boot
+unfolding number_at byte_at from_base decoded opcode funct3 funct7 rd rs1 rs2 imm_i imm_s imm_b imm_u imm_j loaded stored effect meaning register with_register free_runs place refusal has_room sent read_span writable_in own_in only may_use block_pages frame_len frame frame_start frame_fits begin_space begin_regs find change without ended_behind state_behind resumed spaces_left borrows all_left_by free_runs_in write_row row view closed with_table without_table all_descriptors pieces names is_too_long walked place_of ended stepped trapped served exited answer private_process event stray settled all_roused laid_behind waitid_in answer_in at_process_in carried_out event_in turn_in ready_pids picked turns_in first_memory opening_in started all_started boot
 run-outside_memory = refl
 
 -- the second stray access has no note
@@ -181,7 +181,7 @@ run-one_note :
       own = Some 0x7a ∷ [];
       end = Some out_of_quanta;
     })
-unfolding number_at byte_at from_base decoded opcode funct3 funct7 rd rs1 rs2 imm_i imm_s imm_b imm_u imm_j loaded stored effect meaning register with_register free_runs place refusal has_room sent read_span writable_in own_in only may_use block_pages frame_len frame frame_start frame_fits begin_space begin_regs find change without ended_behind state_behind resumed spaces_left borrows all_left_by free_runs_in mmap2_row wanted munmap_row hit without_hit row view closed with_table without_table all_descriptors pieces names is_too_long walked place_of ended stepped trapped served exited answer private_process event stray settled all_roused laid_behind waitid_in answer_in at_process carried_out physical_event physical_turn ready_pids picked physical_turns first_memory opening started all_started boot
+unfolding number_at byte_at from_base decoded opcode funct3 funct7 rd rs1 rs2 imm_i imm_s imm_b imm_u imm_j loaded stored effect meaning register with_register free_runs place refusal has_room sent read_span writable_in own_in only may_use block_pages frame_len frame frame_start frame_fits begin_space begin_regs find change without ended_behind state_behind resumed spaces_left borrows all_left_by free_runs_in mmap2_row wanted munmap_row hit without_hit row view closed with_table without_table all_descriptors pieces names is_too_long walked place_of ended stepped trapped served exited answer private_process event stray settled all_roused laid_behind waitid_in answer_in at_process_in carried_out event_in turn_in ready_pids picked turns_in first_memory opening_in started all_started boot
 run-one_note = refl
 
 -- the notes of an mmap2 of one page, and of its munmap
@@ -205,7 +205,7 @@ run-freed_page :
       own = None ∷ None ∷ [];
       end = Some out_of_quanta;
     })
-unfolding number_at byte_at from_base decoded opcode funct3 funct7 rd rs1 rs2 imm_i imm_s imm_b imm_u imm_j loaded stored effect meaning register with_register free_runs place refusal has_room sent read_span writable_in own_in only may_use block_pages frame_len frame frame_start frame_fits begin_space begin_regs find change without ended_behind state_behind resumed spaces_left borrows all_left_by free_runs_in mmap2_row wanted munmap_row hit without_hit row view closed with_table without_table all_descriptors pieces names is_too_long walked place_of ended stepped trapped served exited answer private_process event stray settled all_roused laid_behind waitid_in answer_in at_process carried_out physical_event physical_turn ready_pids picked physical_turns first_memory opening started all_started boot
+unfolding number_at byte_at from_base decoded opcode funct3 funct7 rd rs1 rs2 imm_i imm_s imm_b imm_u imm_j loaded stored effect meaning register with_register free_runs place refusal has_room sent read_span writable_in own_in only may_use block_pages frame_len frame frame_start frame_fits begin_space begin_regs find change without ended_behind state_behind resumed spaces_left borrows all_left_by free_runs_in mmap2_row wanted munmap_row hit without_hit row view closed with_table without_table all_descriptors pieces names is_too_long walked place_of ended stepped trapped served exited answer private_process event stray settled all_roused laid_behind waitid_in answer_in at_process_in carried_out event_in turn_in ready_pids picked turns_in first_memory opening_in started all_started boot
 run-freed_page = refl
 
 -- a fresh mapping is cleared
@@ -219,7 +219,7 @@ run-mapped_again :
       own = Some 0 ∷ Some 0 ∷ [];
       end = Some out_of_quanta;
     })
-unfolding number_at byte_at from_base decoded opcode funct3 funct7 rd rs1 rs2 imm_i imm_s imm_b imm_u imm_j loaded stored effect meaning register with_register free_runs place refusal has_room sent read_span writable_in own_in only may_use block_pages frame_len frame frame_start frame_fits begin_space begin_regs find change without ended_behind state_behind resumed spaces_left borrows all_left_by free_runs_in mmap2_row wanted munmap_row hit without_hit row view closed with_table without_table all_descriptors pieces names is_too_long walked place_of ended stepped trapped served exited answer private_process event stray settled all_roused laid_behind waitid_in answer_in at_process carried_out physical_event physical_turn ready_pids picked physical_turns first_memory opening started all_started boot
+unfolding number_at byte_at from_base decoded opcode funct3 funct7 rd rs1 rs2 imm_i imm_s imm_b imm_u imm_j loaded stored effect meaning register with_register free_runs place refusal has_room sent read_span writable_in own_in only may_use block_pages frame_len frame frame_start frame_fits begin_space begin_regs find change without ended_behind state_behind resumed spaces_left borrows all_left_by free_runs_in mmap2_row wanted munmap_row hit without_hit row view closed with_table without_table all_descriptors pieces names is_too_long walked place_of ended stepped trapped served exited answer private_process event stray settled all_roused laid_behind waitid_in answer_in at_process_in carried_out event_in turn_in ready_pids picked turns_in first_memory opening_in started all_started boot
 run-mapped_again = refl
 
 -- a call writes into the other program's block, and one reads from there
@@ -236,5 +236,5 @@ run-stray_calls :
       own = Some 3 ∷ Some 4 ∷ [];
       end = Some out_of_quanta;
     })
-unfolding number_at byte_at from_base decoded opcode funct3 funct7 rd rs1 rs2 imm_i imm_s imm_b imm_u imm_j loaded stored effect meaning register with_register free_runs place refusal has_room sent read_span writable_in own_in only may_use block_pages frame_len frame frame_start frame_fits begin_space begin_regs find change without ended_behind state_behind resumed spaces_left borrows all_left_by free_runs_in pipe2_row write_row row view two_free piped with_table without_table all_descriptors pieces names is_too_long walked place_of ended stepped trapped served exited answer private_process event stray settled all_roused laid_behind waitid_in answer_in at_process carried_out physical_event physical_turn ready_pids picked physical_turns first_memory opening started all_started boot
+unfolding number_at byte_at from_base decoded opcode funct3 funct7 rd rs1 rs2 imm_i imm_s imm_b imm_u imm_j loaded stored effect meaning register with_register free_runs place refusal has_room sent read_span writable_in own_in only may_use block_pages frame_len frame frame_start frame_fits begin_space begin_regs find change without ended_behind state_behind resumed spaces_left borrows all_left_by free_runs_in pipe2_row write_row row view two_free piped with_table without_table all_descriptors pieces names is_too_long walked place_of ended stepped trapped served exited answer private_process event stray settled all_roused laid_behind waitid_in answer_in at_process_in carried_out event_in turn_in ready_pids picked turns_in first_memory opening_in started all_started boot
 run-stray_calls = refl

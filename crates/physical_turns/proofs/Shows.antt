@@ -19,7 +19,7 @@ use Rattle.machine_world.specs.Asks.{Ask, Reply, Row, replies, waits, arg, gives
 use Rattle.machine_world.specs.FamilyCalls.{who_of, waitid_fault, child_info, no_info, info_at}
 use Rattle.machine_world.specs.Rows.{row}
 use Rattle.machine_world.specs.Event.{Outcome, went, strays, full, idle, trapped, served, waited, told_in, ask_of, classed}
-use Rattle.physical_turns.specs.Physical.{Physical, in_memory, laid_behind, After, after, no_room, nobody, carried, settled_in, outside, killed, put_in, answered_in, full_at, reaped_in, waitid_behind_in, waitid_in, writes_nothing, classed_in, asked_in, answer_in, effect_in, in_space, by_process, at_process, next_meaning, carried_out, first_stray, with_stray, physical_event, first_memory, opening}
+use Rattle.physical_turns.specs.Physical.{Physical, in_memory, laid_behind, After, after, no_room, nobody, carried, settled_in, outside, killed, put_in, answered_in, full_at, reaped_in, waitid_behind_in, waitid_in, writes_nothing, classed_in, asked_in, answer_in, effect_in, in_space_in, by_process_in, at_process_in, next_meaning, carried_out, first_stray_in, with_stray, event_in, first_memory, opening_in}
 use Rattle.physical_turns.specs.After.{AfterIs}
 use Rattle.physical_turns.specs.Courses.{IsShown, OpeningsShow, EventsShow, TurnsShow, RunsShow}
 use Rattle.physical_turns.proofs.InMemory.{shown_showing}
@@ -94,16 +94,16 @@ effect_shows p q s call h = settled_shows (answer_in p q s) (answer_shows p q s 
 effect_shows p q s (trap signal) h = settled_shows (killed p q signal) (killed_shows p q signal h)
 effect_shows p q s (refused access) h = settled_shows (killed p q outside) (killed_shows p q outside h)
 
-space_acts : (act : Process → Space → After) → ((q : Process) (s : Space) → AfterIs IsShown (act q s)) → (q : Process) (o : Option LiveSpace) → AfterIs IsShown (in_space act q o)
+space_acts : (act : Process → Space → After) → ((q : Process) (s : Space) → AfterIs IsShown (act q s)) → (q : Process) (o : Option LiveSpace) → AfterIs IsShown (in_space_in act q o)
 space_acts act acts q None = tt
 space_acts act acts q (Some s) = acts q s.space
 
-process_acts : (spaces : List LiveSpace) (act : Process → Space → After) → ((q : Process) (s : Space) → AfterIs IsShown (act q s)) → (o : Option Process) → AfterIs IsShown (by_process spaces act o)
+process_acts : (spaces : List LiveSpace) (act : Process → Space → After) → ((q : Process) (s : Space) → AfterIs IsShown (act q s)) → (o : Option Process) → AfterIs IsShown (by_process_in spaces act o)
 process_acts spaces act acts None = tt
 process_acts spaces act acts (Some q) = space_acts act acts q (find id_of q.space spaces)
 
 carried_out_shows : (p : Physical) (pid : ℕ) → IsShown p → AfterIs IsShown (carried_out p pid)
-unfolding carried_out at_process
+unfolding carried_out at_process_in
 carried_out_shows p pid h =
     process_acts p.world.spaces (λ q s. effect_in p q s (next_meaning p q)) (λ q s. effect_shows p q s (next_meaning p q) h) (find pid_of pid p.world.procs)
 
@@ -112,8 +112,8 @@ stray_shows p pid None h = h
 stray_shows p pid (Some access) h = h
 
 pub events_show : EventsShow
-unfolding physical_event
-events_show p pid h = carried_out_shows (with_stray pid (first_stray p pid) p) pid (stray_shows p pid (first_stray p pid) h)
+unfolding event_in
+events_show p pid h = carried_out_shows (with_stray pid (first_stray_in p pid) p) pid (stray_shows p pid (first_stray_in p pid) h)
 
 -- ---- turns and runs
 
@@ -126,5 +126,5 @@ runs_show = by_run_in IsShown events_show
 -- ---- the opening world
 
 pub openings_show : OpeningsShow
-unfolding opening
+unfolding opening_in
 openings_show headers w = shown_showing (first_memory headers w) w

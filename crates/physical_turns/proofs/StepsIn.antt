@@ -12,7 +12,7 @@ use Rattle.region_watch.specs.Instructions.{Ran, ran, goes_on, instructions}
 use Rattle.vfork_exec.specs.Keyed.{find}
 use Rattle.machine_world.specs.World.{Process, LiveSpace, pid_of, id_of}
 use Rattle.machine_world.proofs.States.{with_regs}
-use Rattle.physical_turns.specs.Physical.{Physical, in_memory, shown_space, moved_in, effect_in, next_meaning, has_stray, first_stray}
+use Rattle.physical_turns.specs.Physical.{Physical, in_memory, shown_space, moved_in, effect_in, next_meaning, has_stray, first_stray_in}
 use Rattle.physical_turns.specs.Wider.{IsWithin, Grows, Widens}
 use Rattle.physical_turns.specs.Courses.{LeadsIn, IsShown, HaltsIn, OwnInstructionsLead, WholeInstructionsLead}
 use Rattle.physical_turns.proofs.Widened.{wide_meaning}
@@ -48,7 +48,7 @@ leads_more pid p q s after regs first all done one more =
     subst P sum (subst Q (moved_in_twice p q after regs s.space first all 1 done) (leads_in_on pid p mid last 1 done one more))
 
 -- one instruction that is carried out
-leads_one : (pid : ℕ) (p : Physical) (q : Process) (s : LiveSpace) (after : Regs) (now : Bytes) → Lives pid p q s → first_stray p pid ≡ None
+leads_one : (pid : ℕ) (p : Physical) (q : Process) (s : LiveSpace) (after : Regs) (now : Bytes) → Lives pid p q s → first_stray_in p pid ≡ None
     → next_meaning p q ≡ next after now → LeadsIn pid p 1 (moved_in p q s.space after now 1)
 leads_one pid p q s after now l none is =
     leads_in_event pid p (moved_in p q s.space after now 1) (event_in_is p pid q s l.lives l.has none ∙ ap (effect_in p q s.space) is)
@@ -145,7 +145,7 @@ module _ (pid : ℕ) where
           let r : Ran = instructions n (writable_in s.space.maps) after (only (own_in s.space.maps) whole) in
           let mid : Physical = moved_in p q s.space after whole 1 in
           let lives = lives_on pid p q s after whole 1 l in
-          let none : first_stray p pid ≡ None = steps_unstrayed p pid q (shown_space p.memory s) l.lives (found_shown p pid q s l.lives l.has l.shown) after part is in
+          let none : first_stray_in p pid ≡ None = steps_unstrayed p pid q (shown_space p.memory s) l.lives (found_shown p pid q s l.lives l.has l.shown) after part is in
           leads_more pid p q s after r.regs whole all r.done
           (leads_one pid p q s after whole l none (goes ∙ ap (λ regs. next regs whole) same))
           (more mid (with_regs q after) (shown_space whole s) lives within inside all

@@ -11,7 +11,7 @@ use Rattle.mmap_rules.specs.Space.{all_pass, may_use}
 use Rattle.region_watch.specs.Private.{only}
 use Rattle.region_watch.specs.Instructions.{Ran, one_more, goes_on, instructions}
 use Rattle.region_watch.proofs.Maps.{with_bytes-only}
-use Rattle.call_log.specs.Notes.{Written}
+use Rattle.call_log.specs.Notes.{GotRange}
 use Rattle.flat_loader.specs.Alone.{put_got}
 use Rattle.physical_turns.specs.Wider.{IsWithin, Grows, Widens, RanWider, PutWider}
 use Rattle.physical_turns.proofs.Widened.{wide_meaning}
@@ -81,7 +81,7 @@ locked may mem a (b ∷ bs) i pass is =
 ok_same : (wide : ℕ → Bool) (x y : Bytes) → put_got x wide [] ≡ Ok y → x ≡ y
 ok_same wide x y is = cc
 
-pub wide_put : (own may wide : ℕ → Bool) (mem part : Bytes) (got : List Written) → IsWithin own may → IsWithin wide may
+pub wide_put : (own may wide : ℕ → Bool) (mem part : Bytes) (got : List GotRange) → IsWithin own may → IsWithin wide may
     → put_got (only own mem) may got ≡ Ok part → PutWider own may wide mem part got
 unfolding may_use
 wide_put own may wide mem part [] within inside is = record { all = mem; put = refl; grows = subst (λ (p : Bytes). Grows own may mem p mem) (ok_same may (only own mem) part is) (untouched own may mem) }

@@ -10,17 +10,17 @@ use Rattle.quantum_sched.specs.declared.Quantum.{Quantum}
 use Rattle.vfork_exec.specs.Keyed.{find}
 use Rattle.machine_world.specs.World.{Process, LiveSpace, World, pid_of, id_of}
 use Rattle.machine_world.specs.Courses.{EndsAs}
-use Rattle.physical_turns.specs.Physical.{Physical, in_memory, shown_space, moved_in, next_meaning, has_stray, physical_event, physical_turn, physical_turns, opening}
+use Rattle.physical_turns.specs.Physical.{Physical, in_memory, shown_space, moved_in, next_meaning, has_stray, event_in, turn_in, turns_in, opening_in}
 use Rattle.physical_turns.specs.After.{AfterIs}
 use Rattle.physical_turns.specs.Wider.{IsWithin, Grows}
 
 -- behind so many events of a process a turn of it goes on in the new world
 abbrev pub LeadsIn : (pid : ℕ) → Physical → (done : ℕ) → Physical → Type 0
-LeadsIn pid old done new = (left : ℕ) → physical_turn (done + left) pid old ≡ physical_turn left pid new
+LeadsIn pid old done new = (left : ℕ) → turn_in (done + left) pid old ≡ turn_in left pid new
 
 -- behind the turns of some quanta a run goes on in the new world
 abbrev pub ComesIn : (front : List Quantum) → (old new : Physical) → Type 0
-ComesIn front old new = (back : List Quantum) → physical_turns (front ++ back) old ≡ physical_turns back new
+ComesIn front old new = (back : List Quantum) → turns_in (front ++ back) old ≡ turns_in back new
 
 -- every space has what memory has in its own ranges
 abbrev pub IsShown : Physical → Type 0
@@ -62,13 +62,13 @@ WholeInstructionsLead =
 -- ---- every space shows memory in the opening world, and behind every event, turn and run
 
 abbrev pub OpeningsShow : Type 0
-OpeningsShow = (headers : List (List ℕ)) (w : World) → IsShown (opening headers w)
+OpeningsShow = (headers : List (List ℕ)) (w : World) → IsShown (opening_in headers w)
 
 abbrev pub EventsShow : Type 0
-EventsShow = (p : Physical) (pid : ℕ) → IsShown p → AfterIs IsShown (physical_event p pid)
+EventsShow = (p : Physical) (pid : ℕ) → IsShown p → AfterIs IsShown (event_in p pid)
 
 abbrev pub TurnsShow : Type 0
-TurnsShow = (count pid : ℕ) (p : Physical) → IsShown p → IsShown (physical_turn count pid p).now
+TurnsShow = (count pid : ℕ) (p : Physical) → IsShown p → IsShown (turn_in count pid p).now
 
 abbrev pub RunsShow : Type 0
-RunsShow = (quanta : List Quantum) (p : Physical) → IsShown p → IsShown (physical_turns quanta p).now
+RunsShow = (quanta : List Quantum) (p : Physical) → IsShown p → IsShown (turns_in quanta p).now

@@ -4,17 +4,17 @@ use Rattle.std.specs.Prelude.{ℕ, List}
 use Rattle.quantum_sched.specs.declared.Quantum.{Quantum}
 use Rattle.machine_world.specs.World.{World}
 use Rattle.machine_world.specs.Order.{IsInOrder}
-use Rattle.physical_turns.specs.Physical.{Physical, physical_event, physical_turn, physical_turns, opening}
+use Rattle.physical_turns.specs.Physical.{Physical, event_in, turn_in, turns_in, opening_in}
 use Rattle.physical_turns.specs.After.{AfterHas}
 
 abbrev pub OpeningsKeepOrder : Type 0
-OpeningsKeepOrder = (headers : List (List ℕ)) (w : World) → IsInOrder w → IsInOrder (opening headers w).world
+OpeningsKeepOrder = (headers : List (List ℕ)) (w : World) → IsInOrder w → IsInOrder (opening_in headers w).world
 
 abbrev pub EventsKeepOrderIn : Type 0
-EventsKeepOrderIn = (p : Physical) (pid : ℕ) → IsInOrder p.world → AfterHas IsInOrder (physical_event p pid)
+EventsKeepOrderIn = (p : Physical) (pid : ℕ) → IsInOrder p.world → AfterHas IsInOrder (event_in p pid)
 
 abbrev pub TurnsKeepOrderIn : Type 0
-TurnsKeepOrderIn = (count pid : ℕ) (p : Physical) → IsInOrder p.world → IsInOrder (physical_turn count pid p).now.world
+TurnsKeepOrderIn = (count pid : ℕ) (p : Physical) → IsInOrder p.world → IsInOrder (turn_in count pid p).now.world
 
 abbrev pub RunsKeepOrderIn : Type 0
-RunsKeepOrderIn = (quanta : List Quantum) (p : Physical) → IsInOrder p.world → IsInOrder (physical_turns quanta p).now.world
+RunsKeepOrderIn = (quanta : List Quantum) (p : Physical) → IsInOrder p.world → IsInOrder (turns_in quanta p).now.world

@@ -177,30 +177,30 @@ effect_in p q s call = settled_in (answer_in p q s)
 effect_in p q s (trap signal) = settled_in (killed p q signal)
 effect_in p q s (refused access) = settled_in (killed p q outside)
 
-abbrev pub in_space : (Process → Space → After) → Process → Option LiveSpace → After
-in_space act q None = nobody
-in_space act q (Some s) = act q s.space
+abbrev pub in_space_in : (Process → Space → After) → Process → Option LiveSpace → After
+in_space_in act q None = nobody
+in_space_in act q (Some s) = act q s.space
 
-abbrev pub by_process : List LiveSpace → (Process → Space → After) → Option Process → After
-by_process spaces act None = nobody
-by_process spaces act (Some q) = in_space act q (find id_of q.space spaces)
+abbrev pub by_process_in : List LiveSpace → (Process → Space → After) → Option Process → After
+by_process_in spaces act None = nobody
+by_process_in spaces act (Some q) = in_space_in act q (find id_of q.space spaces)
 
-unfoldable pub at_process : Physical → ℕ → (Process → Space → After) → After
-at_process p pid act = by_process p.world.spaces act (find pid_of pid p.world.procs)
+unfoldable pub at_process_in : Physical → ℕ → (Process → Space → After) → After
+at_process_in p pid act = by_process_in p.world.spaces act (find pid_of pid p.world.procs)
 
 -- the next instruction of a process, over all of memory
 abbrev pub next_meaning : Physical → Process → Meaning
 next_meaning p q = meaning q.regs p.memory (in_memory p.world)
 
 unfoldable pub carried_out : Physical → ℕ → After
-carried_out p pid = at_process p pid (λ q s. effect_in p q s (next_meaning p q))
+carried_out p pid = at_process_in p pid (λ q s. effect_in p q s (next_meaning p q))
 
 -- the system call of a process, and its end by a signal
 unfoldable pub called_in : Physical → ℕ → After
-called_in p pid = at_process p pid (λ q s. settled_in (answer_in p q s))
+called_in p pid = at_process_in p pid (λ q s. settled_in (answer_in p q s))
 
 unfoldable pub died_in : Physical → ℕ → ℕ → After
-died_in p pid signal = at_process p pid (λ q s. settled_in (killed p q signal))
+died_in p pid signal = at_process_in p pid (λ q s. settled_in (killed p q signal))
 
 -- ---- the first stray access
 
@@ -213,49 +213,49 @@ has_stray (end_note pid how ∷ notes) = has_stray notes
 has_stray (stray_note pid access ∷ notes) = true
 
 -- the run's first one, by the world of private spaces
-abbrev pub first_stray : Physical → ℕ → Option Access
-first_stray p pid = if has_stray p.world.notes then None else stray p.world pid
+abbrev pub first_stray_in : Physical → ℕ → Option Access
+first_stray_in p pid = if has_stray p.world.notes then None else stray p.world pid
 
 -- it is noted before all other notes of its event
 abbrev pub with_stray : ℕ → Option Access → Physical → Physical
 with_stray pid None p = p
 with_stray pid (Some access) p = record p { world = noted (stray_note pid (seen_of access)) p.world }
 
-unfoldable pub physical_event : Physical → ℕ → After
-physical_event p pid = carried_out (with_stray pid (first_stray p pid) p) pid
+unfoldable pub event_in : Physical → ℕ → After
+event_in p pid = carried_out (with_stray pid (first_stray_in p pid) p) pid
 
 -- ---- turns
 
-pub record Walk : Type 0 where
+pub record WalkIn : Type 0 where
   pub now : Physical
   pub end : Option End
 
-abbrev pub stays_at : Physical → Option End → Walk
-stays_at p end = record { now = p; end = end }
+abbrev pub remains_at_in : Physical → Option End → WalkIn
+remains_at_in p end = record { now = p; end = end }
 
-abbrev pub turned : (Physical → Walk) → Physical → After → Walk
-turned more p (after now over) = if over then stays_at now None else more now
-turned more p (no_room now) = stays_at now (Some log_full)
-turned more p nobody = stays_at p None
+abbrev pub turned_in : (Physical → WalkIn) → Physical → After → WalkIn
+turned_in more p (after now over) = if over then remains_at_in now None else more now
+turned_in more p (no_room now) = remains_at_in now (Some log_full)
+turned_in more p nobody = remains_at_in p None
 
-unfoldable pub physical_turn : ℕ → ℕ → Physical → Walk
-physical_turn zero pid p = stays_at p None
-physical_turn (suc n) pid p = turned (physical_turn n pid) p (physical_event p pid)
+unfoldable pub turn_in : ℕ → ℕ → Physical → WalkIn
+turn_in zero pid p = remains_at_in p None
+turn_in (suc n) pid p = turned_in (turn_in n pid) p (event_in p pid)
 
-abbrev pub going_on : (Physical → Walk) → Walk → Walk
-going_on more walk = gone walk.end
+abbrev pub going_on_in : (Physical → WalkIn) → WalkIn → WalkIn
+going_on_in more walk = gone walk.end
   where
-    gone : Option End → Walk
+    gone : Option End → WalkIn
     gone (Some end) = walk
     gone None = more walk.now
 
-abbrev pub quantum_turn : (Physical → Walk) → Physical → ℕ → Option ℕ → Walk
-quantum_turn more p count None = stays_at p (Some (none_runs p.world))
-quantum_turn more p count (Some pid) = going_on more (physical_turn count pid p)
+abbrev pub quantum_turn_in : (Physical → WalkIn) → Physical → ℕ → Option ℕ → WalkIn
+quantum_turn_in more p count None = remains_at_in p (Some (none_runs p.world))
+quantum_turn_in more p count (Some pid) = going_on_in more (turn_in count pid p)
 
-unfoldable pub physical_turns : List Quantum → Physical → Walk
-physical_turns [] p = stays_at p (Some (last_end p.world (ready_pids p.world.procs)))
-physical_turns (q ∷ qs) p = quantum_turn (physical_turns qs) p q.count (picked q.pick (ready_pids p.world.procs))
+unfoldable pub turns_in : List Quantum → Physical → WalkIn
+turns_in [] p = remains_at_in p (Some (last_end p.world (ready_pids p.world.procs)))
+turns_in (q ∷ qs) p = quantum_turn_in (turns_in qs) p q.count (picked q.pick (ready_pids p.world.procs))
 
 -- ---- boot
 
@@ -272,5 +272,5 @@ unfoldable pub first_memory : List (List ℕ) → World → Bytes
 first_memory headers w = over (bytes_in w.spaces) (all_headed headers w.notes (zeros w))
 
 -- the opening world of private spaces, with its programs' blocks in one memory
-unfoldable pub opening : List (List ℕ) → World → Physical
-opening headers w = record { world = showing (first_memory headers w) w; memory = first_memory headers w; headers = headers }
+unfoldable pub opening_in : List (List ℕ) → World → Physical
+opening_in headers w = record { world = showing (first_memory headers w) w; memory = first_memory headers w; headers = headers }

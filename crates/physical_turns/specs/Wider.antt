@@ -7,7 +7,7 @@ use Rattle.rv32im_step.specs.declared.stop.Stop.TheVariants.{Refused}
 use Rattle.rv32im_step.specs.Meaning.{Meaning, next, call, trap, refused, meaning}
 use Rattle.region_watch.specs.Private.{only}
 use Rattle.region_watch.specs.Instructions.{Ran, instructions}
-use Rattle.call_log.specs.Notes.{Written}
+use Rattle.call_log.specs.Notes.{GotRange}
 use Rattle.call_log.specs.Sent.{sent}
 use Rattle.flat_loader.specs.Alone.{put_got}
 
@@ -50,12 +50,12 @@ abbrev pub SentWidens : Type 0
 SentWidens = (own : ℕ → Bool) (mem : Bytes) (number : ℕ) (args bytes : List ℕ) → sent number args (only own mem) ≡ Ok bytes → sent number args mem ≡ Ok bytes
 
 -- and those that it writes
-pub record PutWider (own may wide : ℕ → Bool) (mem part : Bytes) (got : List Written) : Type 0 where
+pub record PutWider (own may wide : ℕ → Bool) (mem part : Bytes) (got : List GotRange) : Type 0 where
   pub all : Bytes
   pub put : put_got mem wide got ≡ Ok all
   pub grows : Grows own may mem part all
 
 abbrev pub PutWidens : Type 0
 PutWidens =
-    (own may wide : ℕ → Bool) (mem part : Bytes) (got : List Written) → IsWithin own may → IsWithin wide may →
+    (own may wide : ℕ → Bool) (mem part : Bytes) (got : List GotRange) → IsWithin own may → IsWithin wide may →
     put_got (only own mem) may got ≡ Ok part → PutWider own may wide mem part got

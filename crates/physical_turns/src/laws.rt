@@ -30,7 +30,7 @@ pub fn shown_law()
 {}
 
 /// A run only adds to its notes and to its console: what was there stays.
-pub fn notes_stay_law()
+pub fn notes_remain_law()
     ensures events { EventsAdd }
     ensures turns { TurnsAdd }
     ensures runs { RunsAdd }

@@ -6,7 +6,7 @@ use Rattle.std.specs.BTreeMap as tree
 use Rattle.elf32_reader.specs.declared.section.Section.{Section}
 use Rattle.elf32_reader.specs.Relas.{rela_count}
 use Rattle.psabi_relocs.specs.declared.pairs.Pairs.{Pairs}
-use Rattle.psabi_relocs.specs.declared.pairs.Noted.{Noted}
+use Rattle.psabi_relocs.specs.declared.pairs.Gathered.{Gathered}
 use Rattle.psabi_relocs.specs.declared.reloc.Reloc.{Reloc}
 use Rattle.psabi_relocs.specs.declared.row.Row.{Row}
 use Rattle.psabi_relocs.specs.declared.row.Row.TheVariants.{Unknown, Mark, Pointer, Absolute, Relative, Call, GotHi20, Low, Group}
@@ -21,14 +21,14 @@ use Rattle.psabi_relocs.specs.Reloc.{reloc, target_section}
 use Rattle.psabi_relocs.specs.Pair.{is_high_at, high_of, names, low_of}
 use Rattle.psabi_relocs.specs.Group.{row_step, entry_step, sum_below}
 use Rattle.psabi_relocs.specs.Sums.{no_sums, sums_or_none, sum_of}
-use Rattle.psabi_relocs.specs.Noted.{noted, high_part}
+use Rattle.psabi_relocs.specs.Firsts.{first_at, high_part}
 use Rattle.psabi_relocs.specs.Index.{IsPairs}
 use Rattle.psabi_relocs.proofs.IndexSearches.{first_below_next, first_kept_next}
 
 -- p has what the first n entries note, of the kept section i
-pub record HasEntries (e : List ℕ) (i n : ℕ) (p : Noted) : Type 0 where
-  pub high : (q : ℕ) → noted p.high.items q ≡ option_map (λ k. high_part (reloc e i k)) (first_below (λ k. is_high_at q (reloc e i k)) n)
-  pub low : (q : ℕ) → noted p.low.items q ≡ first_below (λ k. names (target_section e i) q (reloc e i k)) n
+pub record HasEntries (e : List ℕ) (i n : ℕ) (p : Gathered) : Type 0 where
+  pub high : (q : ℕ) → first_at p.high.items q ≡ option_map (λ k. high_part (reloc e i k)) (first_below (λ k. is_high_at q (reloc e i k)) n)
+  pub low : (q : ℕ) → first_at p.low.items q ≡ first_below (λ k. names (target_section e i) q (reloc e i k)) n
   pub sums : (q : ℕ) (width : Width) → sum_of width (sums_or_none (tree.get nat_cmp p.sums q)) ≡ sum_below e i q width n
 
 pub sum_below_zero : (e : List ℕ) (i q : ℕ) (width : Width) → sum_of width no_sums ≡ sum_below e i q width 0
@@ -46,9 +46,9 @@ unfolding sum_below
 sum_below_next e i q n width old new before step = rw (step, before, add-one) refl
 
 -- what one more entry r changes in an index
-pub record Notes (e : List ℕ) (i n : ℕ) (r : Reloc) (old new : Noted) : Type 0 where
-  pub high : (q : ℕ) → noted new.high.items q ≡ option_or (noted old.high.items q) (if is_high_at q r then Some (high_part r) else None)
-  pub low : (q : ℕ) → noted new.low.items q ≡ option_or (noted old.low.items q) (if names (target_section e i) q r then Some n else None)
+pub record Notes (e : List ℕ) (i n : ℕ) (r : Reloc) (old new : Gathered) : Type 0 where
+  pub high : (q : ℕ) → first_at new.high.items q ≡ option_or (first_at old.high.items q) (if is_high_at q r then Some (high_part r) else None)
+  pub low : (q : ℕ) → first_at new.low.items q ≡ option_or (first_at old.low.items q) (if names (target_section e i) q r then Some n else None)
   pub sums : (q : ℕ) (width : Width) → sum_of width (sums_or_none (tree.get nat_cmp new.sums q)) ≡ entry_step q width r (sum_of width (sums_or_none (tree.get nat_cmp old.sums q)))
 
 -- an entry that is by itself changes nothing
@@ -110,7 +110,7 @@ module _ (r : Reloc) (alone : is_joined r.row ≡ false) where
   pub ungrouped : (q : ℕ) (width : Width) (s : Sum) → s ≡ entry_step q width r s
   ungrouped q width s = or_same (r.place == q) (row_step width r.row (is_moving r.class) s) s (no_step width r.row (is_moving r.class) s alone)
 
-pub one_more : (e : List ℕ) (i n : ℕ) (old new : Noted) → HasEntries e i n old → Notes e i n (reloc e i n) old new → HasEntries e i (n + 1) new
+pub one_more : (e : List ℕ) (i n : ℕ) (old new : Gathered) → HasEntries e i n old → Notes e i n (reloc e i n) old new → HasEntries e i (n + 1) new
 one_more e i n old new before step = record {
   high = λ q. first_kept_next (λ k. high_part (reloc e i k)) (λ k. is_high_at q (reloc e i k)) n _ _ (before.high q) (step.high q);
   low = λ q. first_below_next (λ k. names (target_section e i) q (reloc e i k)) n _ _ (before.low q) (step.low q);
@@ -118,8 +118,8 @@ one_more e i n old new before step = record {
 }
 
 -- the index of all entries
-pub all_entries : (e : List ℕ) (i : ℕ) (n : Noted) (p : Pairs) → HasEntries e i (rela_count e i) n
-    → ((q : ℕ) → noted p.high q ≡ noted n.high.items q) → ((q : ℕ) → noted p.low q ≡ noted n.low.items q) → p.sums ≡ n.sums → IsPairs e i p
+pub all_entries : (e : List ℕ) (i : ℕ) (n : Gathered) (p : Pairs) → HasEntries e i (rela_count e i) n
+    → ((q : ℕ) → first_at p.high q ≡ first_at n.high.items q) → ((q : ℕ) → first_at p.low q ≡ first_at n.low.items q) → p.sums ≡ n.sums → IsPairs e i p
 unfolding high_of low_of
 all_entries e i n p h high low sums = record {
   high = λ q. high q ∙ h.high q;

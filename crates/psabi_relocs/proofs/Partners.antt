@@ -12,7 +12,7 @@ use Rattle.psabi_relocs.specs.Bytes.{holds}
 use Rattle.psabi_relocs.specs.Pair.{is_high_at, high_of, own_high, names, low_of}
 use Rattle.psabi_relocs.specs.Slot.{slot_of}
 use Rattle.psabi_relocs.specs.Field.{own_ends, slot_ends, high_ends, pair_ends, relative}
-use Rattle.psabi_relocs.specs.Noted.{high_part}
+use Rattle.psabi_relocs.specs.Firsts.{high_part}
 use Rattle.psabi_relocs.proofs.IndexSearches.{first_below_passes}
 
 -- a low part that was found is an entry

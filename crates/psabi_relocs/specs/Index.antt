@@ -15,7 +15,7 @@ use Rattle.psabi_relocs.specs.Pair.{high_of, low_of}
 use Rattle.psabi_relocs.specs.Group.{sum_below}
 use Rattle.psabi_relocs.specs.Sums.{sums_or_none, sum_of}
 use Rattle.psabi_relocs.specs.Reloc.{reloc}
-use Rattle.psabi_relocs.specs.Noted.{noted, high_part}
+use Rattle.psabi_relocs.specs.Firsts.{first_at, high_part}
 
 -- s is the index of the stored sections of the image of the file e
 pub record AreStored (e : List ℕ) (s : StoredSections) : Type 0 where
@@ -23,6 +23,6 @@ pub record AreStored (e : List ℕ) (s : StoredSections) : Type 0 where
 
 -- p is the index of section i of the file e
 pub record IsPairs (e : List ℕ) (i : ℕ) (p : Pairs) : Type 0 where
-  pub high : (q : ℕ) → noted p.high q ≡ option_map (λ j. high_part (reloc e i j)) (high_of e i q)
-  pub low : (q : ℕ) → noted p.low q ≡ low_of e i q
+  pub high : (q : ℕ) → first_at p.high q ≡ option_map (λ j. high_part (reloc e i j)) (high_of e i q)
+  pub low : (q : ℕ) → first_at p.low q ≡ low_of e i q
   pub sums : (q : ℕ) (width : Width) → sum_of width (sums_or_none (tree.get nat_cmp p.sums q)) ≡ sum_below e i q width (rela_count e i)

@@ -17,7 +17,7 @@ use Rattle.psabi_relocs.specs.declared.judgement.Checked.{Checked}
 use Rattle.psabi_relocs.specs.Row.{is_mark}
 use Rattle.psabi_relocs.specs.Fault.{first_fault}
 use Rattle.psabi_relocs.specs.Effect.{effect_of, spans_of, listed}
-use Rattle.psabi_relocs.specs.Noted.{high_part}
+use Rattle.psabi_relocs.specs.Firsts.{high_part}
 use Rattle.psabi_relocs.specs.Index.{AreStored, IsPairs}
 
 -- section `section` of the file e

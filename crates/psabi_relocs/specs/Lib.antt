@@ -11,7 +11,7 @@
 -- Fault: the first fault of an entry.
 -- Effect: what an accepted entry asks of a loader, and its bytes.
 -- Sums: the sums of all widths at one place, for the index alone.
--- Noted: what was noted at addresses, for the index alone.
+-- Firsts: what was put down first at each address, for the index alone.
 -- Index: what is known of the indexes.
 -- Judged: what the judgement of an entry stands on.
 -- Difference: what a group's entries compute on their number.
@@ -29,7 +29,7 @@ pub mod Field
 pub mod Fault
 pub mod Effect
 pub mod Sums
-pub mod Noted
+pub mod Firsts
 pub mod Index
 pub mod Judged
 pub mod Difference

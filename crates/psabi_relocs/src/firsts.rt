@@ -2,7 +2,7 @@
 
 ghost use Rattle.std.specs.Prelude.{◌≡◌, ℕ, ◌<◌, ◌≤◌, ◌==◌, ◌++◌, [], ◌∷◌, length, slice_index_or, if◌then◌else◌, true, None, Some, IfOk, OnOk};
 ghost use Rattle.std.specs.Option.{option_or};
-ghost use Rattle.psabi_relocs.specs.Noted.{noted, head_at, IsAround};
+ghost use Rattle.psabi_relocs.specs.Firsts.{first_at, head_at, IsAround};
 
 use crate::marks::Marks;
 use std::alloc::AllocError;
@@ -30,7 +30,7 @@ impl<T> Model for Firsts<T> {
 /// Notes something at an address, behind what was noted so far.
 pub fn note<T: Copy>(notes: &mut Vec<(u32, T)>, address: u32, what: T) -> Result<(), AllocError>
     ensures { OnOk result ((q : ℕ) →
-        noted notes.new.items q ≡ option_or (noted notes.old.items q) (if address == q then Some what else None)) }
+        first_at notes.new.items q ≡ option_or (first_at notes.old.items q) (if address == q then Some what else None)) }
 {
     notes.push((address, what))?;
     Ok(())
@@ -59,7 +59,7 @@ fn is_around<T: Copy>(notes: &[(u32, T)], from: usize, to: usize, address: u32) 
 impl<T: Copy> Firsts<T> {
     /// What was noted first at each address. Notes at one address keep their order; where all ascend, nothing is sorted.
     pub fn of(mut notes: Vec<(u32, T)>) -> Result<Firsts<T>, AllocError>
-        ensures { IfOk result (λ firsts. (q : ℕ) → noted firsts q ≡ noted notes.items q) }
+        ensures { IfOk result (λ firsts. (q : ℕ) → first_at firsts q ≡ first_at notes.items q) }
     {
         if !notes.is_sorted_by_key(|note| note.0) {
             notes.sort_by_key(|note| note.0)?;
@@ -84,7 +84,7 @@ impl<T: Copy> Firsts<T> {
     /// What was noted first at the address. The time is at most the logarithm of the number of notes; where addresses lie
     /// evenly, it doesn't depend on it.
     pub fn get(&self, address: u32) -> Option<T>
-        ensures { result ≡ noted self.now address }
+        ensures { result ≡ first_at self.now address }
     {
         let (from, to) = self.around(address);
         let (_, behind) = self.notes.split_at(from);

@@ -1,7 +1,7 @@
 //! What is kept of high parts for their low parts.
 
 ghost use Rattle.std.specs.Prelude.{◌≡◌};
-ghost use Rattle.psabi_relocs.specs.Noted.{high_part};
+ghost use Rattle.psabi_relocs.specs.Firsts.{high_part};
 
 use crate::reloc::Reloc;
 use crate::row::Row;

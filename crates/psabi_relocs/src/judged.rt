@@ -4,7 +4,7 @@ ghost use Rattle.std.specs.Prelude.{◌≡◌, IfSome};
 ghost use Rattle.std.specs.Option.{option_map};
 ghost use Rattle.psabi_relocs.specs.Reloc.{reloc as reloc_of};
 ghost use Rattle.psabi_relocs.specs.Pair.{own_high};
-ghost use Rattle.psabi_relocs.specs.Noted.{high_part};
+ghost use Rattle.psabi_relocs.specs.Firsts.{high_part};
 ghost use Rattle.psabi_relocs.specs.Slot.{own_slot, slot_section};
 
 use crate::high::HighPart;

@@ -13,7 +13,7 @@ ghost use Rattle.psabi_relocs.specs.Bytes.{holds};
 ghost use Rattle.psabi_relocs.specs.Pair.{is_high_at, names};
 ghost use Rattle.psabi_relocs.specs.Group.{entry_step};
 ghost use Rattle.psabi_relocs.specs.Sums.{sums_or_none, sum_of, CanStep};
-ghost use Rattle.psabi_relocs.specs.Noted.{noted, high_part};
+ghost use Rattle.psabi_relocs.specs.Firsts.{first_at, high_part};
 ghost use Rattle.psabi_relocs.specs.Index.{IsPairs};
 
 use crate::bytes::holds;
@@ -37,9 +37,9 @@ pub struct Pairs {
     pub(crate) sums: BTreeMap<u32, Sums>,
 }
 
-/// What the walk over the entries has noted for `Pairs`.
+/// What the walk over the entries has gathered for `Pairs`.
 #[derive(Drop)]
-struct Noted {
+struct Gathered {
     high: Vec<(u32, HighPart)>,
     low: Vec<(u32, u32)>,
     sums: BTreeMap<u32, Sums>,
@@ -76,7 +76,7 @@ fn names_address(target: &Section, reloc: &Reloc) -> bool
 #[tactic(auto, unfolding(crate::specs::Pair::is_high_at))]
 fn note_high(high: &mut Vec<(u32, HighPart)>, reloc: &Reloc) -> Result<(), AllocError>
     ensures { OnOk result ((q : ℕ) →
-        noted high.new.items q ≡ option_or (noted high.old.items q) (if is_high_at q reloc.now then Some (high_part reloc.now) else None)) }
+        first_at high.new.items q ≡ option_or (first_at high.old.items q) (if is_high_at q reloc.now then Some (high_part reloc.now) else None)) }
 {
     if has_high(reloc) {
         note(high, reloc.place, reloc.high_part())?;
@@ -93,7 +93,7 @@ fn note_low(
     entry: u32,
 ) -> Result<(), AllocError>
     ensures { OnOk result ((q : ℕ) →
-        noted low.new.items q ≡ option_or (noted low.old.items q) (if names target.now q reloc.now then Some entry else None)) }
+        first_at low.new.items q ≡ option_or (first_at low.old.items q) (if names target.now q reloc.now then Some entry else None)) }
 {
     if names_address(target, reloc) {
         note(low, reloc.value, entry)?;
@@ -127,14 +127,14 @@ fn note_step(sums: &mut BTreeMap<u32, Sums>, reloc: &Reloc) -> Result<(), AllocE
     Ok(())
 }
 
-impl Noted {
+impl Gathered {
     /// Takes in an entry. `target` is the section that it applies to.
     fn note(&mut self, target: &Section, reloc: &Reloc, entry: u32) -> Result<(), AllocError>
         requires room { (width : Width) → CanStep (sum_of width (sums_or_none (tree.get nat_cmp self.old.sums reloc.now.place))) }
         ensures high { OnOk result ((q : ℕ) →
-            noted self.new.high.items q ≡ option_or (noted self.old.high.items q) (if is_high_at q reloc.now then Some (high_part reloc.now) else None)) }
+            first_at self.new.high.items q ≡ option_or (first_at self.old.high.items q) (if is_high_at q reloc.now then Some (high_part reloc.now) else None)) }
         ensures low { OnOk result ((q : ℕ) →
-            noted self.new.low.items q ≡ option_or (noted self.old.low.items q) (if names target.now q reloc.now then Some entry else None)) }
+            first_at self.new.low.items q ≡ option_or (first_at self.old.low.items q) (if names target.now q reloc.now then Some entry else None)) }
         ensures sums { OnOk result ((q : ℕ) (width : Width) →
             sum_of width (sums_or_none (tree.get nat_cmp self.new.sums q)) ≡ entry_step q width reloc.now (sum_of width (sums_or_none (tree.get nat_cmp self.old.sums q)))) }
     {
@@ -156,9 +156,9 @@ impl Noted {
         requires entry { entry < rela_count elf.now section }
         requires room { (width : Width) → CanStep (sum_of width (sums_or_none (tree.get nat_cmp self.old.sums (reloc elf.now section entry).place))) }
         ensures high { OnOk result ((q : ℕ) →
-            noted self.new.high.items q ≡ option_or (noted self.old.high.items q) (if is_high_at q (reloc elf.now section entry) then Some (high_part (reloc elf.now section entry)) else None)) }
+            first_at self.new.high.items q ≡ option_or (first_at self.old.high.items q) (if is_high_at q (reloc elf.now section entry) then Some (high_part (reloc elf.now section entry)) else None)) }
         ensures low { OnOk result ((q : ℕ) →
-            noted self.new.low.items q ≡ option_or (noted self.old.low.items q) (if names target.now q (reloc elf.now section entry) then Some entry else None)) }
+            first_at self.new.low.items q ≡ option_or (first_at self.old.low.items q) (if names target.now q (reloc elf.now section entry) then Some entry else None)) }
         ensures sums { OnOk result ((q : ℕ) (width : Width) →
             sum_of width (sums_or_none (tree.get nat_cmp self.new.sums q)) ≡ entry_step q width (reloc elf.now section entry) (sum_of width (sums_or_none (tree.get nat_cmp self.old.sums q)))) }
     {
@@ -179,18 +179,18 @@ impl Pairs {
         ensures { IfOk result (λ pairs. IsPairs elf.now section pairs) }
     {
         let target = elf.section(elf.section(section).info);
-        let mut noted = Noted {
+        let mut gathered = Gathered {
             high: Vec::new(alloc),
             low: Vec::new(alloc),
             sums: BTreeMap::new(alloc),
         };
         for entry in 0..elf.relas(section) {
-            noted.note_entry(elf, section, &target, entry)?;
+            gathered.note_entry(elf, section, &target, entry)?;
         }
         Ok(Pairs {
-            high: Firsts::of(noted.high)?,
-            low: Firsts::of(noted.low)?,
-            sums: noted.sums,
+            high: Firsts::of(gathered.high)?,
+            low: Firsts::of(gathered.low)?,
+            sums: gathered.sums,
         })
     }
 }

@@ -7,7 +7,7 @@ use Rattle.rv32im_step.specs.Meaning.{Meaning, next, call, trap, refused, meanin
 use Rattle.call_log.specs.declared.errno.Errno.{Errno}
 use Rattle.call_log.specs.declared.how.Seen.{Seen}
 use Rattle.call_log.specs.Errno.{refusal}
-use Rattle.call_log.specs.Notes.{Written, stray_note, weight_of}
+use Rattle.call_log.specs.Notes.{GotRange, stray_note, weight_of}
 use Rattle.call_log.specs.Strings.{ProgramStrings, program_strings}
 use Rattle.call_log.specs.Sent.{Span, has_zero, sent}
 use Rattle.mmap_rules.specs.Space.{Space, writable_in}
@@ -67,7 +67,7 @@ module _ (w : World) (notes : AllByRecursion IsNoted w.notes) (most : w.rest.pag
     abbrev a : Ask
     a = ask_of w p s bytes
 
-    is_answered : (value : ℕ) (got : List Written) → AreSome got → IsAnswered (entry_of a value got)
+    is_answered : (value : ℕ) (got : List GotRange) → AreSome got → IsAnswered (entry_of a value got)
     is_answered value got some = record { args = refl; got = some }
 
     by_put : (others : List Ended) (r : Reply) → AreSome r.got → (o : Result Bytes Span) → Went Leaves (put (record w { ended = others }) a r o)
@@ -83,7 +83,7 @@ module _ (w : World) (notes : AllByRecursion IsNoted w.notes) (most : w.rest.pag
     by_answered (replies r) some = by_put w.ended r some (put_got r.space.bytes (writable_in r.space.maps) r.got)
     by_answered (waits state) some = by_waited state
 
-    by_gives : (others : List Ended) (value : ℕ) (got : List Written) → AreSome got → Went Leaves (answered (record w { ended = others }) a (gives a value got w.rest))
+    by_gives : (others : List Ended) (value : ℕ) (got : List GotRange) → AreSome got → Went Leaves (answered (record w { ended = others }) a (gives a value got w.rest))
     by_gives others value got some =
         by_put others (record { value = value; got = got; rest = w.rest; space = s; over = false }) some (put_got s.bytes (writable_in s.maps) got)
 

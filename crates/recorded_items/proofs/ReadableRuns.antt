@@ -12,7 +12,7 @@ use Rattle.machine_world.specs.World.{Rest, World}
 use Rattle.machine_world.specs.Free.{free}
 use Rattle.machine_world.specs.Turns.{turns}
 use Rattle.machine_world.specs.Boot.{StartLine, BootFault, Found, found, start_path, taken, placed, fitting, located, started, then_started, all_started, empty_world, boot}
-use Rattle.stays_laws.specs.Stays.{Stay, loading_at, loading_in, loading_of, first_stay, behind_start, first_stays, stays}
+use Rattle.stays_laws.specs.Stays.{Stay, loading_at, loading_in, loading_of, first_stay, behind_start, first_stays, stays_along}
 use Rattle.stays_laws.specs.Sound.{IsSound}
 use Rattle.stays_laws.proofs.SoundRuns.{events_keep_sound, turns_keep_sound}
 use Rattle.stays_laws.proofs.TurnStays.{along_runs}
@@ -20,7 +20,7 @@ use Rattle.recorded_items.specs.Spelled.{HasLoaded, AreReadable}
 use Rattle.recorded_items.specs.Laws.{AreStrings}
 use Rattle.recorded_items.proofs.Readable.{is_loaded, all_append, readable_event, readable_stray}
 
-pub readable_runs : (ys : List Stay) (quanta : List Quantum) (w : World) → IsSound w → AreReadable ys w → AreReadable (stays ys w quanta) (turns quanta w).world
+pub readable_runs : (ys : List Stay) (quanta : List Quantum) (w : World) → IsSound w → AreReadable ys w → AreReadable (stays_along ys w quanta) (turns quanta w).world
 readable_runs = along_runs AreReadable readable_stray events_keep_sound readable_event turns_keep_sound
 
 -- ---- boot

@@ -5,7 +5,7 @@ use Rattle.std.specs.List.{range_with_len, AllByRecursion}
 use Rattle.call_log.specs.declared.errno.Errno.{Errno}
 use Rattle.call_log.specs.declared.errno.Errno.TheVariants.{Enoent, Ebadf, Enosys, Einval, Epipe}
 use Rattle.call_log.specs.declared.how.How.{How}
-use Rattle.call_log.specs.Notes.{Written}
+use Rattle.call_log.specs.Notes.{GotRange}
 use Rattle.call_log.specs.Sent.{Span, most_pieces, piece_at}
 use Rattle.mmap_rules.specs.declared.mapping.Mapping.{Mapping}
 use Rattle.mmap_rules.specs.declared.want.Want.{Want}
@@ -25,7 +25,7 @@ use Rattle.fd_tables.specs.Pipes.{pipe_view, pipe_bytes}
 use Rattle.fd_tables.specs.Calls.{dup_number, dup3_fault, close_fault}
 use Rattle.machine_world.specs.Free.{free_runs_in}
 use Rattle.machine_world.specs.Asks.{Ask, arg, Row, replies, waits, answers, refuses, unless, with_ok, view_of, with_view, free_of, with_free}
-use Rattle.machine_world.specs.Descriptors.{table_of, close_on_exec, dup_row, dup3_row, ioctl_row, close_row, opens_pipe, pipe2_row, position_from, base_of, sought, seek_row, llseek_row, listing, written_at, is_short, folder_row, dents_row, getdents_row}
+use Rattle.machine_world.specs.Descriptors.{table_of, close_on_exec, dup_row, dup3_row, ioctl_row, close_row, opens_pipe, pipe2_row, position_from, base_of, sought, seek_row, llseek_row, listing, got_at, is_short, folder_row, dents_row, getdents_row}
 use Rattle.machine_world.specs.Transfers.{scattered, node_read, moved_bytes, read_waits, taken_read, target_read, read_into, read_row, readv_row, write_position, pipe_room, write_waits, put_write, target_write, write_row, writev_row}
 use Rattle.machine_world.specs.PathCalls.{path_of, path_fault, with_path, changes_tree, remove_folder, creates, asks_folder, access, opens, open_fault, opens_found, mkdirat_row, unlinkat_row, openat_row}
 use Rattle.vfork_exec.specs.declared.family.State.TheVariants.{OnPipe}
@@ -33,8 +33,8 @@ use Rattle.machine_world.specs.FamilyCalls.{child_info, no_info, info_at}
 use Rattle.machine_world.specs.MapCalls.{in_copy, in_free_run, maps, or_own, mapped, file_side, mmap2_row, unmaps, munmap_row}
 use Rattle.machine_world.specs.Rows.{yield_row, brk_row, asks_pid, row}
 
-abbrev pub AreSome : List Written → Type 0
-AreSome got = AllByRecursion (λ (w : Written). w.bytes ≢ []) got
+abbrev pub AreSome : List GotRange → Type 0
+AreSome got = AllByRecursion (λ (w : GotRange). w.bytes ≢ []) got
 
 abbrev pub GivesSome : Row → Type 0
 GivesSome (replies r) = AreSome r.got
@@ -53,7 +53,7 @@ some_scattered bytes (span ∷ spans) = by (some_scattered (drop span.len bytes)
     by more [] is = rw is more
     by more (b ∷ front) is = rw is (no_end b front, more)
 
-some_at : (addr : ℕ) (bytes : List ℕ) → AreSome (written_at addr bytes)
+some_at : (addr : ℕ) (bytes : List ℕ) → AreSome (got_at addr bytes)
 some_at addr [] = tt
 some_at addr (b ∷ bytes) = (no_end b bytes, tt)
 

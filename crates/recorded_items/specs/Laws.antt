@@ -8,7 +8,7 @@ use Rattle.machine_world.specs.World.{Rest, World}
 use Rattle.machine_world.specs.Recordings.{most_count}
 use Rattle.machine_world.specs.Turns.{turns}
 use Rattle.machine_world.specs.Boot.{StartLine, empty_world, boot}
-use Rattle.stays_laws.specs.Stays.{Stay, stays, first_stays}
+use Rattle.stays_laws.specs.Stays.{Stay, stays_along, first_stays}
 use Rattle.stays_laws.specs.Laws.{CanBoot}
 use Rattle.recorded_items.specs.Recorded.{kept_space, told_item, recorded}
 
@@ -35,7 +35,7 @@ stay_of keep ys = stay_in ys (kept_space keep)
 
 -- a world that a run leads to, and the stays along it
 abbrev pub stays_behind : Rest → List StartLine → World → List Quantum → List Stay
-stays_behind rest starts w quanta = stays (first_stays (empty_world rest) starts) w quanta
+stays_behind rest starts w quanta = stays_along (first_stays (empty_world rest) starts) w quanta
 
 -- as long as 64 bits count its events, all that is told by the recording and the notes is that stay
 abbrev pub ItemsAreOfTheStay : Type 0

@@ -1,7 +1,7 @@
 -- What holds of each program that a run loads and of each call that it notes: so the items of any space have a text.
 use Rattle.std.specs.Prelude.{◌≡◌, ◌≢◌, ℕ, ◌+◌, ◌≤◌, true, List, [], length}
 use Rattle.std.specs.List.{AllByRecursion}
-use Rattle.call_log.specs.Notes.{Written, CallEntry, Note, call_note, load_note, end_note, stray_note}
+use Rattle.call_log.specs.Notes.{GotRange, CallEntry, Note, call_note, load_note, end_note, stray_note}
 use Rattle.flat_loader.specs.Original.{block_pages}
 use Rattle.flat_loader.specs.Frame.{frame_fits}
 use Rattle.flat_loader.specs.Begin.{Loading}
@@ -23,7 +23,7 @@ pub record IsLoaded (l : Loading) : Type 0 where
 -- six arguments, and no range of output that is empty
 pub record IsAnswered (e : CallEntry) : Type 0 where
   pub args : length e.args ≡ 6
-  pub got : AllByRecursion (λ (w : Written). w.bytes ≢ []) e.got
+  pub got : AllByRecursion (λ (w : GotRange). w.bytes ≢ []) e.got
 
 abbrev pub IsNoted : Note → Type 0
 IsNoted (call_note e) = IsAnswered e

@@ -2,7 +2,7 @@
 
 ghost use Rattle.std.specs.Prelude.{◌≡◌, map, IfOk};
 ghost use Rattle.call_log.specs.Programs.{paths_of as texts_of};
-ghost use Rattle.call_log.specs.Values.{written_value, entry_value};
+ghost use Rattle.call_log.specs.Values.{got_value, entry_value};
 
 use call_log::{Entry, Got};
 use std::alloc::{AllocError, Global};
@@ -25,7 +25,7 @@ pub(crate) fn copied_entry(alloc: Global, entry: &Entry) -> Result<Entry, AllocE
 
 /// The ranges that a call wrote.
 fn copied_ranges(alloc: Global, ranges: &[Got]) -> Result<Vec<Got>, AllocError>
-    ensures { IfOk result (λ copies. map written_value copies.items ≡ map written_value ranges.now) }
+    ensures { IfOk result (λ copies. map got_value copies.items ≡ map got_value ranges.now) }
 {
     let mut copies = Vec::new(alloc);
     for range in ranges {
@@ -35,7 +35,7 @@ fn copied_ranges(alloc: Global, ranges: &[Got]) -> Result<Vec<Got>, AllocError>
 }
 
 fn copied_range(alloc: Global, range: &Got) -> Result<Got, AllocError>
-    ensures { IfOk result (λ copy. written_value copy ≡ written_value range.now) }
+    ensures { IfOk result (λ copy. got_value copy ≡ got_value range.now) }
 {
     let bytes = copied_bytes(alloc, &range.bytes)?;
     Ok(Got {

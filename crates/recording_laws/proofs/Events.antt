@@ -9,7 +9,7 @@ use Rattle.rv32im_step.specs.declared.regs.Regs.{Regs}
 use Rattle.rv32im_step.specs.Meaning.{Meaning, next, call, trap, refused, meaning}
 use Rattle.call_log.specs.declared.errno.Errno.{Errno}
 use Rattle.call_log.specs.Errno.{refusal}
-use Rattle.call_log.specs.Notes.{Written, CallEntry, call_note, weight_of}
+use Rattle.call_log.specs.Notes.{GotRange, CallEntry, call_note, weight_of}
 use Rattle.call_log.specs.Strings.{ProgramStrings, program_strings}
 use Rattle.call_log.specs.Sent.{Span, has_zero, sent}
 use Rattle.mmap_rules.specs.declared.want.Want.{Want}
@@ -259,7 +259,7 @@ module _ (ys : List Stay) (w : World) (sound : IsSound w) (told : AreRecorded ys
       isnt : (k : ℕ) → (95 == k) ≡ false → (a.number == k) ≡ false
       isnt k other = ap (λ (n : ℕ). n == k) (eqb_is a.number 95 is) ∙ other
 
-      keeps_given : (others : List Ended) (value : ℕ) (got : List Written) → Keeps ys (answered (record w { ended = others }) a (gives a value got w.rest))
+      keeps_given : (others : List Ended) (value : ℕ) (got : List GotRange) → Keeps ys (answered (record w { ended = others }) a (gives a value got w.rest))
       keeps_given others value got =
           keeps_put others (record { value = value; got = got; rest = w.rest; space = s.space; over = false }) (told_other a (isnt 220 refl) (isnt 222 refl) (gives a value got w.rest))
           (put_got s.space.bytes (writable_in s.space.maps) got) refl

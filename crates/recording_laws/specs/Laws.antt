@@ -7,7 +7,7 @@ use Rattle.machine_world.specs.Recordings.{is_recorded}
 use Rattle.machine_world.specs.Event.{Trace, went, event}
 use Rattle.machine_world.specs.Turns.{turn, turns}
 use Rattle.machine_world.specs.Boot.{StartLine, empty_world, boot}
-use Rattle.stays_laws.specs.Stays.{Stay, collect, collect_all, stays, first_stays}
+use Rattle.stays_laws.specs.Stays.{Stay, collect, collect_all, stays_along, first_stays}
 use Rattle.stays_laws.specs.Sound.{IsSound}
 use Rattle.recording_laws.specs.Items.{AreRecorded, Tells}
 
@@ -23,7 +23,7 @@ TurnsRecord =
     (ys : List Stay) (count pid : ℕ) (w : World) → IsSound w → MayRun w pid → AreRecorded ys w → AreRecorded (collect_all ys (turn count pid w).traces) (turn count pid w).world
 
 abbrev pub RunsRecord : Type 0
-RunsRecord = (ys : List Stay) (quanta : List Quantum) (w : World) → IsSound w → AreRecorded ys w → AreRecorded (stays ys w quanta) (turns quanta w).world
+RunsRecord = (ys : List Stay) (quanta : List Quantum) (w : World) → IsSound w → AreRecorded ys w → AreRecorded (stays_along ys w quanta) (turns quanta w).world
 
 -- of a space that has a stay, once it is there
 abbrev pub RecordingsTell : Type 0

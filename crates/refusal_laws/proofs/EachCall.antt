@@ -4,7 +4,7 @@ use Rattle.std.specs.Prelude.{◌==◌, not, if◌then◌else◌}
 use Rattle.std.proofs.lemmas.Bool.{eqb-true}
 use Rattle.call_log.specs.declared.errno.Errno.{Errno}
 use Rattle.call_log.specs.declared.errno.Errno.TheVariants.{E2big, Eagain, Enomem, Einval, Enametoolong}
-use Rattle.call_log.specs.Notes.{Written}
+use Rattle.call_log.specs.Notes.{GotRange}
 use Rattle.call_log.specs.Strings.{ProgramStrings, program_strings}
 use Rattle.call_log.specs.Sent.{has_zero}
 use Rattle.flat_loader.specs.Original.{block_pages}
@@ -35,7 +35,7 @@ pub record EachCall (P : Outcome → Type 0) (w : World) (a : Ask) : Type 0 wher
   pub refused : (e : Errno) → is_enomem e ≡ false → P (answered w a (refuses a e))
   pub exit : P (exited w a)
   -- waitid: a child that has ended may go from the list
-  pub told : (ended : List Ended) (got : List Written) → P (answered (record w { ended = ended }) a (gives a 0 got a.rest))
+  pub told : (ended : List Ended) (got : List GotRange) → P (answered (record w { ended = ended }) a (gives a 0 got a.rest))
   pub waiting : (state : State) → P (waited w a.process state)
   pub fork : P (forked w a)
   -- execve: a program in a run that is free, or no run

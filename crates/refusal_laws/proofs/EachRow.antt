@@ -8,12 +8,13 @@ use Rattle.std.proofs.lemmas.List.{length-take, length-drop}
 use Rattle.byte_words.specs.Search.{first}
 use Rattle.call_log.specs.declared.errno.Errno.{Errno}
 use Rattle.call_log.specs.declared.errno.Errno.TheVariants.{Enoent, Ebadf, Enosys, Enomem, Einval, Emfile, Epipe, Espipe, Enotdir, Eisdir, Enotty}
-use Rattle.call_log.specs.Notes.{Written, weight_of}
+use Rattle.call_log.specs.Notes.{GotRange, weight_of}
 use Rattle.call_log.specs.Sent.{Span, most_moved, most_pieces, piece_at}
 use Rattle.mmap_rules.specs.declared.mapping.Mapping.{Mapping}
 use Rattle.mmap_rules.specs.declared.want.Want.{Want}
 use Rattle.mmap_rules.specs.Want.{wanted}
 use Rattle.mmap_rules.specs.Mappings.{Hit, hit, without_hit}
+use Rattle.mmap_rules.specs.Copies.{wanted_bytes}
 use Rattle.mem_files.specs.declared.node.Node.{Node}
 use Rattle.mem_files.specs.declared.node.Node.TheVariants.{Dir, File}
 use Rattle.mem_files.specs.Inodes.{Inodes, kind_of, bytes_of, entries_of}
@@ -31,10 +32,10 @@ use Rattle.vfork_exec.specs.declared.family.State.TheVariants.{OnPipe}
 use Rattle.machine_world.specs.World.{Rest}
 use Rattle.machine_world.specs.Free.{free_runs_in}
 use Rattle.machine_world.specs.Asks.{Ask, arg, Row, waits, gives, leaves, answers, refuses, unless, with_ok, view_of, with_view, free_of, with_free}
-use Rattle.machine_world.specs.Descriptors.{table_of, close_on_exec, dup_row, dup3_row, ioctl_row, close_row, opens_pipe, pipe2_row, position_from, base_of, sought, seek_row, llseek_row, Listing, listing, written_at, listed, is_short, folder_row, dents_row, getdents_row}
+use Rattle.machine_world.specs.Descriptors.{table_of, close_on_exec, dup_row, dup3_row, ioctl_row, close_row, opens_pipe, pipe2_row, position_from, base_of, sought, seek_row, llseek_row, Listing, listing, got_at, listed, is_short, folder_row, dents_row, getdents_row}
 use Rattle.machine_world.specs.Transfers.{scattered, room_of, moved_bytes, read_reply, node_read, read_waits, taken_read, pipe_read, target_read, read_into, read_row, readv_row, write_position, pipe_room, write_waits, put_write, pipe_write, target_write, write_row, writev_row}
 use Rattle.machine_world.specs.PathCalls.{path_of, path_fault, with_path, changes_tree, remove_folder, creates, asks_folder, access, opens, open_fault, emptied, opens_found, mkdirat_row, unlinkat_row, openat_row}
-use Rattle.machine_world.specs.MapCalls.{own_run, in_copy, in_free_run, with_mapping, first_bytes, maps, or_own, mapped, file_side, mmap2_row, over_maps, unmaps, munmap_row}
+use Rattle.machine_world.specs.MapCalls.{own_run, in_copy, in_free_run, with_mapping, maps, or_own, mapped, file_side, mmap2_row, over_maps, unmaps, munmap_row}
 use Rattle.machine_world.specs.Placements.{placed_page}
 use Rattle.machine_world.specs.Rows.{yield_row, brk_row, asks_pid, row}
 use Rattle.refusal_laws.specs.NoRun.{LacksRunToMap}
@@ -53,7 +54,7 @@ pub record EachRow (R : Row → Type 0) (a : Ask) : Type 0 where
   pub refused : (e : Errno) → is_enomem e ≡ false → R (refuses a e)
   pub waiting : (state : State) → R (waits state)
   -- a count of bytes, a descriptor, or 0
-  pub small : (value : ℕ) (got : List Written) (rest : Rest) → value ≤ most_moved + weight_of a.sent got → R (gives a value got rest)
+  pub small : (value : ℕ) (got : List GotRange) (rest : Rest) → value ≤ most_moved + weight_of a.sent got → R (gives a value got rest)
   -- a pid, and its turn's end
   pub pid : R (answers a a.process.pid)
   pub parent : R (answers a a.process.parent)
@@ -61,12 +62,12 @@ pub record EachRow (R : Row → Type 0) (a : Ask) : Type 0 where
   -- a break, and pages that go and come
   pub brk : R (brk_row a)
   pub unmap : (h : Hit) → hit a.space.maps (arg a 0) (arg a 1) ≡ Some h → R (leaves a 0 (over_maps a.space (without_hit a.space.maps h)))
-  pub map : (want : Want) (m : Mapping) → wanted_by a ≡ Ok want → chosen a want ≡ Some m → R (leaves a m.range.from (with_mapping a.space m (first_bytes a.rest.tree want)))
+  pub map : (want : Want) (m : Mapping) → wanted_by a ≡ Ok want → chosen a want ≡ Some m → R (leaves a m.range.from (with_mapping a.space m (wanted_bytes a.rest.tree want)))
   -- no pages
   pub no_run : a.number ≡ 222 → LacksRunToMap a → R (refuses a Enomem)
 
 -- the bytes that are written at one address are all that is written
-weight_at : (at : ℕ) (bytes sent : List ℕ) → length bytes ≤ weight_of sent (written_at at bytes)
+weight_at : (at : ℕ) (bytes sent : List ℕ) → length bytes ≤ weight_of sent (got_at at bytes)
 weight_at at [] sent = omega arith
 weight_at at (b ∷ bytes) sent = omega arith
 
@@ -98,7 +99,7 @@ module _ (R : Row → Type 0) (a : Ask) (each : EachRow R a) (few : (fd : ℕ) �
   by_path : (rows : List ℕ → Row) → R (rows (path_of a)) → R (with_path a rows)
   by_path rows h = by_fault (path_fault (arg a 0) (path_of a)) (rows (path_of a)) (other_path (arg a 0) (path_of a)) (λ none. h)
 
-  nothing : (got : List Written) (rest : Rest) → R (gives a 0 got rest)
+  nothing : (got : List GotRange) (rest : Rest) → R (gives a 0 got rest)
   nothing got rest = each.small 0 got rest (omega arith)
 
   no : (e : Errno) → is_enomem e ≡ false → R (refuses a e)
@@ -219,7 +220,7 @@ module _ (R : Row → Type 0) (a : Ask) (each : EachRow R a) (few : (fd : ℕ) �
     by_seek (a_node node) = by_if (nat_lt 2 (arg a 4)) (refuses a Einval) _ (no Einval refl) (by_sought (position_from (base_of a v node (arg a 4)) (arg a 1 * 2 ^ 32 + arg a 2)))
 
     by_listed : (l : Listing) → R (listed a v l)
-    by_listed l = each.small (length l.bytes) (written_at (arg a 1) l.bytes) _ (let less = weight_at (arg a 1) l.bytes a.sent in omega (arith, less))
+    by_listed l = each.small (length l.bytes) (got_at (arg a 1) l.bytes) _ (let less = weight_at (arg a 1) l.bytes a.sent in omega (arith, less))
 
     by_folder : (node : ℕ) (kind : Node) → R (folder_row a v node kind)
     by_folder node File = no Enotdir refl

@@ -11,7 +11,7 @@ use Rattle.machine_world.specs.Families.{MayRun, ready_pids}
 use Rattle.machine_world.specs.Free.{free}
 use Rattle.machine_world.specs.Found.{Found, found, taken}
 use Rattle.machine_world.specs.Event.{Outcome, went, strays, full, idle, event}
-use Rattle.machine_world.specs.Turns.{Walk, End, stays_at, traced, turned, turn, going_on, quantum_turn, turns}
+use Rattle.machine_world.specs.Turns.{Walk, End, remains_at, traced, turned, turn, going_on, quantum_turn, turns}
 use Rattle.machine_world.specs.Boot.{StartLine, BootFault, start_path, placed, fitting, located, started, all_started, then_started, empty_world, boot}
 use Rattle.machine_world.proofs.Runnable.{ready_found, may_run_still}
 use Rattle.machine_world.proofs.Marks.{boots_leave_no_mark, events_leave_no_mark, turns_leave_no_mark}
@@ -48,7 +48,7 @@ turned_bounded : (more : World → Walk) (w : World) (pid : ℕ) (o : Outcome) �
     → ((v : World) → IsRegularWorld v → MayRun v pid → AreBounded (more v).world) → AreBounded (turned more w pid o).world
 turned_bounded more w pid (went now t) is r may on = over t.over refl
   where
-    over : (b : Bool) → t.over ≡ b → AreBounded (traced t (if b then stays_at now None else more now)).world
+    over : (b : Bool) → t.over ≡ b → AreBounded (traced t (if b then remains_at now None else more now)).world
     over true ends = bounds_kept w (bounded w r) pid now t is
     over false ends = on now (events_keep_regular w pid now t r may is) (may_run_still w pid now t may is ends)
 turned_bounded more w pid (strays access) is r may on = record { parents = r.parents; spaces = (bounded w r).spaces }

@@ -14,6 +14,7 @@ use Rattle.mmap_rules.specs.declared.want.Want.{Want}
 use Rattle.mmap_rules.specs.declared.want.Want.TheVariants.{Anon, File}
 use Rattle.mmap_rules.specs.Space.{Space}
 use Rattle.mmap_rules.specs.Mappings.{copied_from}
+use Rattle.mmap_rules.specs.Copies.{pages_of}
 use Rattle.fd_tables.specs.Files.{Table, most_descriptors, table_at, free_in, lowest_free}
 use Rattle.fd_tables.proofs.NextNumbers.{first_there}
 use Rattle.flat_loader.specs.Alone.{is_errno, most_pages}
@@ -21,7 +22,7 @@ use Rattle.vfork_exec.specs.Keyed.{find}
 use Rattle.vfork_exec.proofs.Keyed.{find_key, find_below}
 use Rattle.machine_world.specs.World.{Process, LiveSpace, World, pid_of}
 use Rattle.machine_world.specs.Asks.{Ask, Reply, arg, view_of, free_of}
-use Rattle.machine_world.specs.MapCalls.{all_maps, lowest, has_pages, shared, own_run, pages_of, or_own}
+use Rattle.machine_world.specs.MapCalls.{all_maps, lowest, has_pages, shared, own_run, or_own}
 use Rattle.machine_world.specs.Placements.{placed_page}
 use Rattle.machine_world.specs.Rows.{next_brk}
 use Rattle.machine_world.specs.Recordings.{is_recorded, with_brought}

@@ -11,7 +11,7 @@ use Rattle.rv32im_step.specs.Asked.{Asked, asked}
 use Rattle.region_watch.specs.declared.mode.Mode.{Mode}
 use Rattle.region_watch.specs.Private.{passes, passed_bytes, kept_bytes}
 use Rattle.region_watch.specs.Instructions.{Ran, ran, one_more, goes_on, instructions, asked_behind, all_asked}
-use Rattle.region_watch.specs.Strays.{noted_all, noted_on}
+use Rattle.region_watch.specs.Strays.{stray_after_all, stray_after_on}
 
 -- what is left, after k instructions
 abbrev pub after_first : ℕ → Ran → Ran
@@ -75,25 +75,25 @@ behind_stops more (trap signal) regs after m now stop is other = refl
 behind_stops more (refused access) regs after m now stop is other = refl
 
 asks_on : (k n : ℕ) (w : ℕ → Bool) (regs after : Regs) (m now : Bytes) (stop : Stop) (table : List PageOwner) (f g : Option Access) → k < n
-    → Means (meaning regs m w) regs after m now stop → stop ≡ Next → g ≡ noted_all table f (asked regs m w)
-    → noted_all table g (all_asked (n - (k + 1)) w after now) ≡ noted_all table f (all_asked (n - k) w regs m)
+    → Means (meaning regs m w) regs after m now stop → stop ≡ Next → g ≡ stray_after_all table f (asked regs m w)
+    → stray_after_all table g (all_asked (n - (k + 1)) w after now) ≡ stray_after_all table f (all_asked (n - k) w regs m)
 unfolding all_asked
 asks_on k n w regs after m now stop table f g less means is here =
     let left : n - k ≡ suc (n - (k + 1)) = omega arith in
     let behind = behind_goes (λ r b. all_asked (n - (k + 1)) w r b) (meaning regs m w) regs after m now (rw is at means) in
-    rw (left, behind) (noted_on table table f g _ (asked regs m w) (all_asked (n - (k + 1)) w after now) refl here refl)
+    rw (left, behind) (stray_after_on table table f g _ (asked regs m w) (all_asked (n - (k + 1)) w after now) refl here refl)
 
 asks_no_more : (k n : ℕ) (w : ℕ → Bool) (regs after : Regs) (m now : Bytes) (stop : Stop) (table : List PageOwner) (f g : Option Access) → k < n
-    → Means (meaning regs m w) regs after m now stop → stop ≢ Next → g ≡ noted_all table f (asked regs m w)
-    → g ≡ noted_all table f (all_asked (n - k) w regs m)
+    → Means (meaning regs m w) regs after m now stop → stop ≢ Next → g ≡ stray_after_all table f (asked regs m w)
+    → g ≡ stray_after_all table f (all_asked (n - k) w regs m)
 unfolding all_asked
 asks_no_more k n w regs after m now stop table f g less means other here =
     let left : n - k ≡ suc (n - (k + 1)) = omega arith in
     let behind = behind_stops (λ r b. all_asked (n - (k + 1)) w r b) (meaning regs m w) regs after m now stop means other in
-    rw (left, behind) (noted_on table table f g _ (asked regs m w) [] refl here refl)
+    rw (left, behind) (stray_after_on table table f g _ (asked regs m w) [] refl here refl)
 
 pub asked_ends : (k n : ℕ) (w : ℕ → Bool) (regs : Regs) (m : Bytes) (table : List PageOwner) (f : Option Access) → k ≡ n
-    → noted_all table f (all_asked (n - k) w regs m) ≡ f
+    → stray_after_all table f (all_asked (n - k) w regs m) ≡ f
 unfolding all_asked
 asked_ends k n w regs m table f all =
     let left : n - k ≡ 0 = omega arith in
@@ -113,9 +113,9 @@ whole_on k n mode was is table before now mem after regs left stop whole less mo
 pub asked_on : (k n : ℕ) (mode was is : Mode) (table before now : List PageOwner) (mem after : List ℕ) (regs left : Regs) (stop : Stop) (f g whole : Option Access) → k < n
     → was ≡ mode → is ≡ was → before ≡ table → now ≡ before
     → Means (meaning regs (passed_bytes was before mem) (passes was before true)) regs left (passed_bytes was before mem) (passed_bytes is now after) stop → stop ≡ Next
-    → g ≡ noted_all before f (asked regs (passed_bytes was before mem) (passes was before true))
-    → noted_all table f (all_asked (n - k) (passes mode table true) regs (passed_bytes mode table mem)) ≡ whole
-    → noted_all table g (all_asked (n - (k + 1)) (passes mode table true) left (passed_bytes mode table after)) ≡ whole
+    → g ≡ stray_after_all before f (asked regs (passed_bytes was before mem) (passes was before true))
+    → stray_after_all table f (all_asked (n - k) (passes mode table true) regs (passed_bytes mode table mem)) ≡ whole
+    → stray_after_all table g (all_asked (n - (k + 1)) (passes mode table true) left (passed_bytes mode table after)) ≡ whole
 asked_on k n mode was is table before now mem after regs left stop f g whole less mode_was mode_is one two means carried here same =
     asks_on k n (passes mode table true) regs left (passed_bytes mode table mem) (passed_bytes mode table after) stop table f g less
     (rw (mode_is, mode_was, two, one) at means) carried (rw (mode_was, one) at here) ∙ same
@@ -123,8 +123,8 @@ asked_on k n mode was is table before now mem after regs left stop f g whole les
 pub asked_stops : (k n : ℕ) (mode was is : Mode) (table before now : List PageOwner) (mem after : List ℕ) (regs left : Regs) (stop : Stop) (f g whole : Option Access) → k < n
     → was ≡ mode → is ≡ was → before ≡ table → now ≡ before
     → Means (meaning regs (passed_bytes was before mem) (passes was before true)) regs left (passed_bytes was before mem) (passed_bytes is now after) stop → stop ≢ Next
-    → g ≡ noted_all before f (asked regs (passed_bytes was before mem) (passes was before true))
-    → noted_all table f (all_asked (n - k) (passes mode table true) regs (passed_bytes mode table mem)) ≡ whole
+    → g ≡ stray_after_all before f (asked regs (passed_bytes was before mem) (passes was before true))
+    → stray_after_all table f (all_asked (n - k) (passes mode table true) regs (passed_bytes mode table mem)) ≡ whole
     → g ≡ whole
 asked_stops k n mode was is table before now mem after regs left stop f g whole less mode_was mode_is one two means other here same =
     asks_no_more k n (passes mode table true) regs left (passed_bytes mode table mem) (passed_bytes mode table after) stop table f g less

@@ -17,7 +17,7 @@ use Rattle.region_watch.specs.declared.mode.Mode.{Mode}
 use Rattle.region_watch.specs.declared.mode.Mode.TheVariants.{Halt, GoOn}
 use Rattle.region_watch.specs.Private.{passes}
 use Rattle.region_watch.specs.Instructions.{all_asked}
-use Rattle.region_watch.specs.Strays.{noted_all}
+use Rattle.region_watch.specs.Strays.{stray_after_all}
 
 -- ---- what passes
 
@@ -89,14 +89,14 @@ halt-asked = refl
 -- ---- the first that strays
 
 -- the store does, though it is carried out
-go_on-first : noted_all one_page None go_on ≡ Some (store_of 0x8000_0044 0x8000_004c 1)
+go_on-first : stray_after_all one_page None go_on ≡ Some (store_of 0x8000_0044 0x8000_004c 1)
 unfolding one_page may_use owns owns_at
 go_on-first = rw go_on-asked refl
 
-halt-first : noted_all one_page None halt ≡ Some (store_of 0x8000_0044 0x8000_004c 1)
+halt-first : stray_after_all one_page None halt ≡ Some (store_of 0x8000_0044 0x8000_004c 1)
 unfolding one_page may_use owns owns_at
 halt-first = rw halt-asked refl
 
 -- and isn't told where another one strayed before
-not-first : noted_all one_page (Some (fetch_of 0x8000_0000)) go_on ≡ Some (fetch_of 0x8000_0000)
+not-first : stray_after_all one_page (Some (fetch_of 0x8000_0000)) go_on ≡ Some (fetch_of 0x8000_0000)
 not-first = rw go_on-asked refl

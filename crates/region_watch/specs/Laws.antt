@@ -8,8 +8,8 @@ use Rattle.region_watch.specs.Private.{physical, own_bytes, frozen, passed_bytes
 
 -- where one table lets write none of the bytes that the other names as own, whatever leaves the first one's frozen bytes
 -- leaves all bytes of the other
-abbrev pub OthersStay : Type 0
-OthersStay =
+abbrev pub OthersRemain : Type 0
+OthersRemain =
     (table other : List PageOwner) (mem after : List ℕ) → ((a : ℕ) → owns table true a ≡ true → owns other false a ≡ false) →
     frozen table after ≡ frozen table mem → own_bytes other after ≡ own_bytes other mem
 

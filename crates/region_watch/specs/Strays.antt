@@ -17,9 +17,9 @@ abbrev pub call_of : ℕ → ℕ → ℕ → Access
 call_of pc addr len = record { pc = pc; addr = addr; len = len; kind = Call }
 
 -- the first stray access after one more access, of which is told whether it is allowed
-abbrev pub noted : Option Access → Access → Bool → Option Access
-noted (Some first) access allowed = Some first
-noted None access allowed = if allowed then None else Some access
+abbrev pub stray_after : Option Access → Access → Bool → Option Access
+stray_after (Some first) access allowed = Some first
+stray_after None access allowed = if allowed then None else Some access
 
 -- an access of an instruction writes if it is a store
 abbrev pub is_write : AccessKind → Bool
@@ -31,21 +31,21 @@ abbrev pub allows : List PageOwner → Access → Bool
 allows table access = may_use (owns table (is_write access.kind)) access.addr access.len
 
 -- the first stray access, by a table, after a list of accesses
-abbrev pub noted_all : List PageOwner → Option Access → List Asked → Option Access
-noted_all table first [] = first
-noted_all table first (one ∷ more) = noted_all table (noted first one.access (allows table one.access)) more
+abbrev pub stray_after_all : List PageOwner → Option Access → List Asked → Option Access
+stray_after_all table first [] = first
+stray_after_all table first (one ∷ more) = stray_after_all table (stray_after first one.access (allows table one.access)) more
 
 -- two lists, one after the other: a law, for a bus that makes both
-noted_both : (table : List PageOwner) (first : Option Access) (xs ys : List Asked) → noted_all table first (xs ++ ys) ≡ noted_all table (noted_all table first xs) ys
-noted_both table first [] ys = refl
-noted_both table first (x ∷ xs) ys = noted_both table (noted first x.access (allows table x.access)) xs ys
+stray_after_both : (table : List PageOwner) (first : Option Access) (xs ys : List Asked) → stray_after_all table first (xs ++ ys) ≡ stray_after_all table (stray_after_all table first xs) ys
+stray_after_both table first [] ys = refl
+stray_after_both table first (x ∷ xs) ys = stray_after_both table (stray_after first x.access (allows table x.access)) xs ys
 
-pub noted_on : (table next : List PageOwner) (a b c : Option Access) (xs ys : List Asked) → next ≡ table → b ≡ noted_all table a xs → c ≡ noted_all next b ys
-    → c ≡ noted_all table a (xs ++ ys)
-noted_on table next a b c xs ys same p q =
-    q ∙ ap (λ (t : List PageOwner). noted_all t b ys) same ∙ ap (λ (first : Option Access). noted_all table first ys) p ∙ sym (noted_both table a xs ys)
+pub stray_after_on : (table next : List PageOwner) (a b c : Option Access) (xs ys : List Asked) → next ≡ table → b ≡ stray_after_all table a xs → c ≡ stray_after_all next b ys
+    → c ≡ stray_after_all table a (xs ++ ys)
+stray_after_on table next a b c xs ys same p q =
+    q ∙ ap (λ (t : List PageOwner). stray_after_all t b ys) same ∙ ap (λ (first : Option Access). stray_after_all table first ys) p ∙ sym (stray_after_both table a xs ys)
 
 -- the first stray access after a run that ended so, where what strays is refused
-abbrev pub noted_stop : Option Access → Stop → Option Access
-noted_stop first (Refused access) = noted first access false
-noted_stop first other = first
+abbrev pub stray_after_stop : Option Access → Stop → Option Access
+stray_after_stop first (Refused access) = stray_after first access false
+stray_after_stop first other = first

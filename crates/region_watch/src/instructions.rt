@@ -5,7 +5,7 @@ ghost use Rattle.rv32im_step.specs.Parts.{registers};
 ghost use Rattle.region_watch.specs.declared.mode.Mode.TheVariants.{Halt};
 ghost use Rattle.region_watch.specs.Private.{passes, passed_bytes, kept_bytes};
 ghost use Rattle.region_watch.specs.Instructions.{instructions, ran, all_asked};
-ghost use Rattle.region_watch.specs.Strays.{noted_all, noted_stop};
+ghost use Rattle.region_watch.specs.Strays.{stray_after_all, stray_after_stop};
 ghost use Rattle.region_watch.specs.Watched.{first_stray};
 
 use crate::watch::Watch;
@@ -69,9 +69,9 @@ fn steps_at(pc: &mut u32, x: &mut RegisterFile, watch: &mut Watch<'_>, count: u3
     ensures length { length watch.new.mem.now ≡ length watch.old.mem.now }
     ensures owners { watch.new.owners.now ≡ watch.old.owners.now }
     ensures mode { watch.new.mode ≡ watch.old.mode }
-    ensures first { first_stray watch.new ≡ noted_all watch.old.owners.now (first_stray watch.old)
+    ensures first { first_stray watch.new ≡ stray_after_all watch.old.owners.now (first_stray watch.old)
         (all_asked count (passes watch.old.mode watch.old.owners.now true) (registers pc.old x.old) (passed_bytes watch.old.mode watch.old.owners.now watch.old.mem.now)) }
-    ensures halts { watch.old.mode ≡ Halt → first_stray watch.new ≡ noted_stop (first_stray watch.old) result.stop }
+    ensures halts { watch.old.mode ≡ Halt → first_stray watch.new ≡ stray_after_stop (first_stray watch.old) result.stop }
     ensures same_reference { watch.new.mem.ghost_name ≡ watch.old.mem.ghost_name }
 {
     let mut left = count;
@@ -105,9 +105,9 @@ fn steps_in(pc: &mut u32, x: &mut RegisterFile, watch: &mut Watch<'_>, count: u3
     ensures length { length watch.new.mem.now ≡ length watch.old.mem.now }
     ensures owners { watch.new.owners.now ≡ watch.old.owners.now }
     ensures mode { watch.new.mode ≡ watch.old.mode }
-    ensures first { first_stray watch.new ≡ noted_all watch.old.owners.now (first_stray watch.old)
+    ensures first { first_stray watch.new ≡ stray_after_all watch.old.owners.now (first_stray watch.old)
         (all_asked count (passes watch.old.mode watch.old.owners.now true) (registers pc.old x.old) (passed_bytes watch.old.mode watch.old.owners.now watch.old.mem.now)) }
-    ensures halts { watch.old.mode ≡ Halt → first_stray watch.new ≡ noted_stop (first_stray watch.old) result.stop }
+    ensures halts { watch.old.mode ≡ Halt → first_stray watch.new ≡ stray_after_stop (first_stray watch.old) result.stop }
     ensures same_reference { watch.new.mem.ghost_name ≡ watch.old.mem.ghost_name }
 {
     let mut own = Watch {
@@ -134,9 +134,9 @@ pub fn run_steps(regs: &mut Regs, watch: &mut Watch<'_>, count: u32) -> Progress
     ensures length { length watch.new.mem.now ≡ length watch.old.mem.now }
     ensures owners { watch.new.owners.now ≡ watch.old.owners.now }
     ensures mode { watch.new.mode ≡ watch.old.mode }
-    ensures first { first_stray watch.new ≡ noted_all watch.old.owners.now (first_stray watch.old)
+    ensures first { first_stray watch.new ≡ stray_after_all watch.old.owners.now (first_stray watch.old)
         (all_asked count (passes watch.old.mode watch.old.owners.now true) regs.old (passed_bytes watch.old.mode watch.old.owners.now watch.old.mem.now)) }
-    ensures halts { watch.old.mode ≡ Halt → first_stray watch.new ≡ noted_stop (first_stray watch.old) result.stop }
+    ensures halts { watch.old.mode ≡ Halt → first_stray watch.new ≡ stray_after_stop (first_stray watch.old) result.stop }
     ensures same_reference { watch.new.mem.ghost_name ≡ watch.old.mem.ghost_name }
 {
     let mut pc = regs.pc;

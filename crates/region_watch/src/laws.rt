@@ -1,10 +1,10 @@
 //! Laws over the definitions. They hold for all memories and tables, and no code runs.
 
-ghost use Rattle.region_watch.specs.Laws.{OthersStay, AllIsPassed};
+ghost use Rattle.region_watch.specs.Laws.{OthersRemain, AllIsPassed};
 
 /// What one program's writes leave of another's bytes.
 pub fn others_law()
-    ensures { OthersStay }
+    ensures { OthersRemain }
 {}
 
 /// What a watch of a run that goes on lets read.

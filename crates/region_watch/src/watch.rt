@@ -5,7 +5,7 @@ ghost use Rattle.std.proofs.Common.{refl, ◌∙◌};
 ghost use Rattle.mmap_rules.specs.Owners.{owns};
 ghost use Rattle.mmap_rules.specs.Space.{may_use};
 ghost use Rattle.region_watch.specs.Private.{in_pages, passes, passed_bytes, kept_bytes};
-ghost use Rattle.region_watch.specs.Strays.{call_of, noted, noted_all, noted_on};
+ghost use Rattle.region_watch.specs.Strays.{call_of, stray_after, stray_after_all, stray_after_on};
 
 use crate::mode::Mode;
 use mmap_rules::Owners;
@@ -139,7 +139,7 @@ impl<'a> Watch<'a> {
         ensures mem { self.new.mem ≡ self.old.mem }
         ensures owners { self.new.owners ≡ self.old.owners }
         ensures mode { self.new.mode ≡ self.old.mode }
-        ensures first { first_stray self.new ≡ noted (first_stray self.old) access (may_use (owns self.old.owners.now write) access.addr access.len) }
+        ensures first { first_stray self.new ≡ stray_after (first_stray self.old) access (may_use (owns self.old.owners.now write) access.addr access.len) }
     {
         if own(self.owners, access.addr, access.len, write) {
             return true;
@@ -161,7 +161,7 @@ impl<'a> Watch<'a> {
         ensures mem { self.new.mem ≡ self.old.mem }
         ensures owners { self.new.owners ≡ self.old.owners }
         ensures mode { self.new.mode ≡ self.old.mode }
-        ensures first { first_stray self.new ≡ noted (first_stray self.old) access (may_use (owns self.old.owners.now write) access.addr access.len) }
+        ensures first { first_stray self.new ≡ stray_after (first_stray self.old) access (may_use (owns self.old.owners.now write) access.addr access.len) }
     {
         if access.addr.wrapping_sub(self.from) < self.reach {
             return true;
@@ -180,7 +180,7 @@ impl<'a> Watch<'a> {
         ensures mem { self.new.mem ≡ self.old.mem }
         ensures owners { self.new.owners ≡ self.old.owners }
         ensures mode { self.new.mode ≡ self.old.mode }
-        ensures first { first_stray self.new ≡ noted (first_stray self.old) access (may_use (owns self.old.owners.now false) access.addr access.len) }
+        ensures first { first_stray self.new ≡ stray_after (first_stray self.old) access (may_use (owns self.old.owners.now false) access.addr access.len) }
     {
         if access.addr.wrapping_sub(self.from) < self.reach {
             return true;
@@ -195,7 +195,7 @@ impl<'a> Watch<'a> {
         ensures mem { self.new.mem ≡ self.old.mem }
         ensures owners { self.new.owners ≡ self.old.owners }
         ensures mode { self.new.mode ≡ self.old.mode }
-        ensures first { first_stray self.new ≡ noted (first_stray self.old) (call_of pc addr len) (may_use (owns self.old.owners.now false) addr len) }
+        ensures first { first_stray self.new ≡ stray_after (first_stray self.old) (call_of pc addr len) (may_use (owns self.old.owners.now false) addr len) }
     {
         let access = call_access(pc, addr, len);
         if self.looks_up(access, false) {
@@ -212,7 +212,7 @@ impl<'a> Watch<'a> {
         ensures mem { self.new.mem ≡ self.old.mem }
         ensures owners { self.new.owners ≡ self.old.owners }
         ensures mode { self.new.mode ≡ self.old.mode }
-        ensures first { first_stray self.new ≡ noted (first_stray self.old) (call_of pc addr len) (may_use (owns self.old.owners.now true) addr len) }
+        ensures first { first_stray self.new ≡ stray_after (first_stray self.old) (call_of pc addr len) (may_use (owns self.old.owners.now true) addr len) }
     {
         let access = call_access(pc, addr, len);
         if self.looks_up(access, true) {
@@ -252,7 +252,7 @@ impl Bus for Watch<'_> {
 
     ghost did = { λ s xs t. (t.mem.ghost_name ≡ s.mem.ghost_name) × (t.owners.now ≡ s.owners.now) × (t.mode ≡ s.mode)
         × (kept_bytes t.mode t.owners.now t.mem.now ≡ kept_bytes s.mode s.owners.now s.mem.now) × (length t.mem.now ≡ length s.mem.now)
-        × (first_stray t ≡ noted_all s.owners.now (first_stray s) xs) };
+        × (first_stray t ≡ stray_after_all s.owners.now (first_stray s) xs) };
 
     ghost did_none = { λ a. (refl, refl, refl, refl, refl, refl) };
 
@@ -262,7 +262,7 @@ impl Bus for Watch<'_> {
       q.2 ∙ p.2,
       q.3 ∙ p.3,
       q.4 ∙ p.4,
-      noted_on a.owners.now b.owners.now (first_stray a) (first_stray b) (first_stray c) xs ys p.1 p.5 q.5,
+      stray_after_on a.owners.now b.owners.now (first_stray a) (first_stray b) (first_stray c) xs ys p.1 p.5 q.5,
     ) };
 
     #[inline]

@@ -8,7 +8,7 @@ use Rattle.bflt_format.specs.Values.{Values}
 use Rattle.mmap_rules.specs.declared.mapping.Range.{Range}
 use Rattle.mmap_rules.specs.declared.owners.PageOwner.{PageOwner}
 use Rattle.mmap_rules.specs.Space.{in_range}
-use Rattle.mmap_rules.specs.Owners.{IsShaped, free_page, noted}
+use Rattle.mmap_rules.specs.Owners.{IsShaped, free_page, entered}
 use Rattle.mmap_rules.proofs.Lists.{each_one}
 use Rattle.mmap_rules.proofs.TableMore.{table_first, table_none}
 use Rattle.region_watch.specs.Private.{only, physical}
@@ -46,7 +46,7 @@ module _ (f : Values) (block : ℕ) (args env : List (List ℕ)) (page : block %
   is_block = record { writes = refl; whole = refl; header = λ e. absurd (omega (arith, e, page)) }
 
   pub lone_begins : (table new : List PageOwner) (mem : List ℕ) (ranges : List Range) (r : Range) → table ≡ replicate 16384 free_page → length new ≡ length table
-      → ((p : ℕ) → slice_get new p ≡ option_map (noted r p) (slice_get table p)) → length mem ≡ 4096 * 16384 → r ≡ range → ranges ≡ r ∷ [] → IsLone ranges new mem
+      → ((p : ℕ) → slice_get new p ≡ option_map (entered r p) (slice_get table p)) → length mem ≡ 4096 * 16384 → r ≡ range → ranges ≡ r ∷ [] → IsLone ranges new mem
   lone_begins table new mem ranges r free len each mem_len is one =
       let count : length table ≡ 16384 = ap length free ∙ length-replicate 16384 free_page in
       subst (λ (rs : List Range). IsLone rs new mem) (sym one) (subst (λ (x : Range). IsLone (x ∷ []) new mem) (sym is)
@@ -56,7 +56,7 @@ module _ (f : Values) (block : ℕ) (args env : List (List ℕ)) (page : block %
         head = refl;
         is_block = is_block;
         own = each_one IsOwnRange range is_own;
-        named = table_first table new (mapping_of range) (free ∙ ap (λ (n : ℕ). replicate n free_page) (sym count)) (λ p. each p ∙ ap (λ (x : Range). option_map (noted x p) (slice_get table p)) is);
+        named = table_first table new (mapping_of range) (free ∙ ap (λ (n : ℕ). replicate n free_page) (sym count)) (λ p. each p ∙ ap (λ (x : Range). option_map (entered x p) (slice_get table p)) is);
         pages = len ∙ count;
         memory = mem_len;
       }))

@@ -9,7 +9,7 @@ use Rattle.nommu_regions.specs.declared.region.Source.TheVariants.{Own}
 use Rattle.mmap_rules.specs.declared.mapping.Range.{Range}
 use Rattle.mmap_rules.specs.declared.mapping.Mapping.{Mapping}
 use Rattle.mmap_rules.specs.declared.owners.PageOwner.{PageOwner}
-use Rattle.mmap_rules.specs.Owners.{IsShaped, IsTable, unnoted}
+use Rattle.mmap_rules.specs.Owners.{IsShaped, IsTable, taken_out}
 use Rattle.mmap_rules.specs.Mappings.{part_of, left_of}
 use Rattle.mmap_rules.proofs.Lists.{each_one, each_append, each_cut}
 use Rattle.mmap_rules.proofs.TableLess.{table_without, is_dropped}
@@ -46,7 +46,7 @@ map_cut k ranges others =
 -- ---- one goes
 
 pub taken_named : (table new : List PageOwner) (ranges : List Range) (k : ℕ) (r : Range) → IsTable table (mappings_of ranges) → slice_get ranges k ≡ Some r
-    → ((page : ℕ) → slice_get new page ≡ option_map (unnoted r page) (slice_get table page))
+    → ((page : ℕ) → slice_get new page ≡ option_map (taken_out r page) (slice_get table page))
     → IsTable new (mappings_of (take k ranges ++ drop (k + 1) ranges))
 taken_named table new ranges k r is there each =
     subst (λ (l : List Range). IsTable new (mappings_of l)) (is_dropped ranges k)
@@ -101,7 +101,7 @@ parts_mapped r addr size cuts =
     ∙ (λ i. part_mapped r r.from addr b.before i ++ part_mapped r (addr + size) (r.from + r.size) b.behind i)
 
 pub cut_named : (table new : List PageOwner) (ranges : List Range) (k : ℕ) (r gone : Range) (addr size : ℕ) → IsTable table (mappings_of ranges) → CutAt ranges k r addr size
-    → gone.from ≡ addr → gone.size ≡ size → ((page : ℕ) → slice_get new page ≡ option_map (unnoted gone page) (slice_get table page))
+    → gone.from ≡ addr → gone.size ≡ size → ((page : ℕ) → slice_get new page ≡ option_map (taken_out gone page) (slice_get table page))
     → IsTable new (mappings_of (take k ranges ++ parts r addr size ++ drop (k + 1) ranges))
 cut_named table new ranges k r gone addr size is c from_is size_is each =
     subst (IsTable new) (sym (map_cut k ranges (parts r addr size) ∙ ap (λ (l : List Mapping). take k (mappings_of ranges) ++ l ++ drop (k + 1) (mappings_of ranges)) (parts_mapped r addr size c.cuts)))

@@ -16,7 +16,7 @@ use Rattle.mmap_rules.specs.declared.mapping.Range.{Range}
 use Rattle.mmap_rules.specs.declared.mapping.Mapping.{Mapping}
 use Rattle.mmap_rules.specs.declared.owners.PageOwner.{PageOwner}
 use Rattle.mmap_rules.specs.Space.{in_range, may_use}
-use Rattle.mmap_rules.specs.Owners.{IsShaped, IsTable, Says, distance, meets, noted, owns_in, owns_at, owns}
+use Rattle.mmap_rules.specs.Owners.{IsShaped, IsTable, Says, distance, meets, entered, owns_in, owns_at, owns}
 use Rattle.mmap_rules.proofs.Lists.{any_found, found_counted, each_append, each_one}
 use Rattle.mmap_rules.proofs.TableMore.{table_more}
 use Rattle.region_watch.specs.Private.{only, physical}
@@ -328,7 +328,7 @@ module _ (ranges : List Range) (table : List PageOwner) (mem : List ℕ) (l : Is
   pub shaped : (n : ℕ) → n ≡ 16384 → IsShaped n r
   shaped n is = subst (λ k. IsShaped k r) (sym is) is_own.shaped
 
-  pub lone_more : (new : List PageOwner) (now : List ℕ) (left : List Range) → left ≡ ranges ++ r ∷ [] → length new ≡ length table → ((page : ℕ) → slice_get new page ≡ option_map (noted r page) (slice_get table page))
+  pub lone_more : (new : List PageOwner) (now : List ℕ) (left : List Range) → left ≡ ranges ++ r ∷ [] → length new ≡ length table → ((page : ℕ) → slice_get new page ≡ option_map (entered r page) (slice_get table page))
       → length now ≡ length mem → IsLone left new now
   lone_more new now left is len each mem_len =
       let more : mappings_of left ≡ mappings_of ranges ++ mapping_of r ∷ [] = ap mappings_of is ∙ map-append mapping_of ranges (r ∷ []) in

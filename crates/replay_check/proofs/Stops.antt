@@ -10,7 +10,7 @@ use Rattle.call_log.specs.Sent.{Span, sent}
 use Rattle.region_watch.specs.declared.instructions.Progress.{Progress}
 use Rattle.region_watch.specs.Instructions.{Ran, goes_on, one_more, instructions}
 use Rattle.flat_loader.specs.Alone.{Runner, OwnMemory, Solo, Item, writable_of, number_of, args_of, put_got, is_call, with_items, solo_put, solo_called, solo_moved, solo_top, solo_step}
-use Rattle.replay_check.specs.Answers.{put_in, written_in, told, told_by, answered, answered_on, answered_over}
+use Rattle.replay_check.specs.Answers.{put_own, with_put, told, told_by, answered, answered_on, answered_over}
 use Rattle.replay_check.specs.Solos.{moved, Runs, without_top}
 
 -- ---- how instructions end
@@ -96,11 +96,11 @@ none_called top below m (Err span) = refl
 pub missing_steps : (s : Solo) → Means s call → solo_step s [] ≡ None
 missing_steps s m = step_is s call m [] ∙ none_called m.top m.below s.memory (sent (number_of m.top.regs) (args_of m.top.regs) s.memory.bytes)
 
-put_called : (top : Runner) (below : List Runner) (m : OwnMemory) (i : Item) (rest : List Item) → with_items rest (solo_put top below m i (put_got m.bytes (writable_of m.ranges) i.entry.got)) ≡ with_items rest (answered_over top below i (put_in m i.entry.got))
-unfolding put_in
+put_called : (top : Runner) (below : List Runner) (m : OwnMemory) (i : Item) (rest : List Item) → with_items rest (solo_put top below m i (put_got m.bytes (writable_of m.ranges) i.entry.got)) ≡ with_items rest (answered_over top below i (put_own m i.entry.got))
+unfolding put_own
 put_called top below m i rest = put (put_got m.bytes (writable_of m.ranges) i.entry.got)
   where
-    put : (o : Result Bytes Span) → with_items rest (solo_put top below m i o) ≡ with_items rest (answered_over top below i (written_in m o))
+    put : (o : Result Bytes Span) → with_items rest (solo_put top below m i o) ≡ with_items rest (answered_over top below i (with_put m o))
     put (Ok now) = refl
     put (Err span) = refl
 
@@ -110,7 +110,7 @@ called top below m i rest (Err span) = refl
 called top below m i rest (Ok bytes) = by (is_call top bytes i.entry)
   where
     by : (b : Bool) → (if b then with_items rest (solo_put top below m i (put_got m.bytes (writable_of m.ranges) i.entry.got)) else None)
-        ≡ with_items rest (answered_over top below i (if b then put_in m i.entry.got else None))
+        ≡ with_items rest (answered_over top below i (if b then put_own m i.entry.got else None))
     by true = put_called top below m i rest
     by false = refl
 

@@ -10,7 +10,7 @@ use Rattle.region_watch.specs.declared.instructions.Progress.{Progress}
 use Rattle.region_watch.specs.Instructions.{Ran, ran, instructions}
 use Rattle.flat_loader.specs.Alone.{Runner, OwnMemory, writable_of, number_of, args_of, is_call}
 use Rattle.replay_check.specs.declared.lone.Runner.{Runner as Stored}
-use Rattle.replay_check.specs.Answers.{GivesOrRefutes, put_in, told}
+use Rattle.replay_check.specs.Answers.{GivesOrRefutes, put_own, told}
 use Rattle.replay_check.specs.Solos.{runner_value, Runs}
 
 -- ---- the call
@@ -23,7 +23,7 @@ module _ (top : Runner) (m : OwnMemory) (e : CallEntry) (number : ℕ) (args : L
   read : (o : Result (List ℕ) Span) → sent number args m.bytes ≡ o → sent (number_of top.regs) (args_of top.regs) m.bytes ≡ o
   read o is = (λ i. sent (sym (number_is top.regs) i) (args_of top.regs) m.bytes) ∙ (λ i. sent (sym at i) (sym args_are i) m.bytes) ∙ is
 
-  pub told_put : (bytes : List ℕ) (right : Bool) (new : OwnMemory) → sent number args m.bytes ≡ Ok bytes → is_call top bytes e ≡ true → GivesOrRefutes (put_in m e.got) right new → GivesOrRefutes (told top m e) right new
+  pub told_put : (bytes : List ℕ) (right : Bool) (new : OwnMemory) → sent number args m.bytes ≡ Ok bytes → is_call top bytes e ≡ true → GivesOrRefutes (put_own m e.got) right new → GivesOrRefutes (told top m e) right new
   unfolding told
   told_put bytes right new is tells leaves = rw (read (Ok bytes) is, tells) leaves
 

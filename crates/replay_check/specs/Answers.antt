@@ -2,11 +2,11 @@
 use Rattle.std.specs.Prelude.{◌≡◌, ◌≢◌, ℕ, Bool, true, false, not, ◌&&◌, ◌||◌, if◌then◌else◌, List, All, [], ◌∷◌, Option, Some, None, Result, Ok, Err}
 use Rattle.std.specs.List.{AllByRecursion}
 use Rattle.byte_words.specs.ByteMap.{Bytes}
-use Rattle.call_log.specs.Notes.{Written, CallEntry}
+use Rattle.call_log.specs.Notes.{GotRange, CallEntry}
 use Rattle.call_log.specs.Sent.{Span, sent}
 use Rattle.mmap_rules.specs.declared.mapping.Range.{Range}
 use Rattle.flat_loader.specs.Alone.{Runner, OwnMemory, Solo, Item, own_of, writable_of, has_byte, number_of, args_of, put_got, is_call, new_range, is_placed, may_map, new_bytes, with_range, solo_answered}
-use Rattle.call_bytes.specs.Puts.{first_stray, IsRange}
+use Rattle.call_bytes.specs.Puts.{stray_range, IsRange}
 
 -- ---- what a function that may refute leaves
 
@@ -19,19 +19,19 @@ GivesOrRefutes None false new = Unit {0}
 -- ---- a call and the item that tells of it
 
 -- each range of output has a byte
-abbrev pub AreFilled : List Written → Type 0
-AreFilled gots = AllByRecursion (λ (w : Written). w.bytes ≢ []) gots
+abbrev pub AreFilled : List GotRange → Type 0
+AreFilled gots = AllByRecursion (λ (w : GotRange). w.bytes ≢ []) gots
 
-abbrev pub written_in : OwnMemory → Result Bytes Span → Option OwnMemory
-written_in m (Ok bytes) = Some (record m { bytes = bytes })
-written_in m (Err span) = None
+abbrev pub with_put : OwnMemory → Result Bytes Span → Option OwnMemory
+with_put m (Ok bytes) = Some (record m { bytes = bytes })
+with_put m (Err span) = None
 
 -- the output is written
-unfoldable pub put_in : OwnMemory → List Written → Option OwnMemory
-put_in m gots = written_in m (put_got m.bytes (writable_of m.ranges) gots)
+unfoldable pub put_own : OwnMemory → List GotRange → Option OwnMemory
+put_own m gots = with_put m (put_got m.bytes (writable_of m.ranges) gots)
 
 abbrev pub told_by : Runner → OwnMemory → CallEntry → Result (List ℕ) Span → Option OwnMemory
-told_by top m e (Ok bytes) = if is_call top bytes e then put_in m e.got else None
+told_by top m e (Ok bytes) = if is_call top bytes e then put_own m e.got else None
 told_by top m e (Err span) = None
 
 -- the item tells of the call at which the process stands, and its output is written
@@ -59,9 +59,9 @@ abbrev pub mapped : OwnMemory → Item → Option OwnMemory
 mapped m i = if may_map m (new_range i.entry) i.brought then Some (with_range m (new_range i.entry) (new_bytes (new_range i.entry) i.brought)) else None
 
 -- no range of output strays, or one does
-abbrev pub MayPut : (ℕ → Bool) → List Written → Bool → Type 0
-MayPut w gots true = (first_stray w gots ≡ None) × All IsRange gots
-MayPut w gots false = (span : Span) × (first_stray w gots ≡ Some span)
+abbrev pub MayPut : (ℕ → Bool) → List GotRange → Bool → Type 0
+MayPut w gots true = (stray_range w gots ≡ None) × All IsRange gots
+MayPut w gots false = (span : Span) × (stray_range w gots ≡ Some span)
 
 -- the range of an mmap2, where it may be at all
 abbrev pub IsNewRange : CallEntry → Option Range → Type 0

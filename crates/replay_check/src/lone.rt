@@ -1,7 +1,7 @@
 //! One program by itself: its memory, and the processes that run in it.
 
 ghost use Rattle.std.specs.Prelude.{◌≡◌, IfOk, map};
-ghost use Rattle.call_log.specs.Values.{entry_value, written_value};
+ghost use Rattle.call_log.specs.Values.{entry_value, got_value};
 ghost use Rattle.flat_loader.specs.Alone.{is_call, is_errno, is_same, args_of, leaves_space, replied, child_regs, solo_effect};
 ghost use Rattle.replay_check.specs.Ranges.{own_memory};
 ghost use Rattle.replay_check.specs.Answers.{AreFilled, GivesOrRefutes, told, answered};
@@ -110,7 +110,7 @@ impl LoneMemory {
     /// Whether an entry tells of the call at which a process stands. Where it does, its output is written.
     #[tactic(auto, unfolding(crate::specs::Answers::told))]
     fn told(&mut self, alloc: Global, top: &Runner, entry: &Entry) -> Result<bool, AllocError>
-        requires { AreFilled (map written_value entry.now.got.items) }
+        requires { AreFilled (map got_value entry.now.got.items) }
         ensures { IfOk result (λ right. GivesOrRefutes (told (runner_value top.now) (own_memory self.old) (entry_value entry.now)) right (own_memory self.new)) }
     {
         let args = args_of(&top.regs);
@@ -171,7 +171,7 @@ impl Lone {
         entry: &Entry,
         brought: &[u8],
     ) -> Result<bool, AllocError>
-        requires { AreFilled (map written_value entry.now.got.items) }
+        requires { AreFilled (map got_value entry.now.got.items) }
         ensures { IfOk result (λ right. GivesOrRefutes (answered (solo_of self.old) (item_of entry.now brought.now)) right (solo_of self.new)) }
     {
         let Some(top) = self.stack.pop() else {

@@ -2,13 +2,13 @@
 
 ghost use Rattle.std.specs.Prelude.{◌≡◌, map, true};
 ghost use Rattle.call_log.specs.Sent.{sent};
-ghost use Rattle.call_log.specs.Values.{written_value};
+ghost use Rattle.call_log.specs.Values.{got_value};
 ghost use Rattle.mmap_rules.specs.Owners.{owns};
 ghost use Rattle.region_watch.specs.Instructions.{instructions, ran};
 ghost use Rattle.flat_loader.specs.Alone.{writable_of};
 ghost use Rattle.call_bytes.specs.Reading.{Reads};
 ghost use Rattle.replay_check.specs.Ranges.{own_memory};
-ghost use Rattle.replay_check.specs.Answers.{AreFilled, MayPut, GivesOrRefutes, put_in};
+ghost use Rattle.replay_check.specs.Answers.{AreFilled, MayPut, GivesOrRefutes, put_own};
 
 use call_bytes::{Unread, put, read_sent};
 use call_log::Got;
@@ -40,8 +40,8 @@ impl Model for LoneMemory {
 
 /// Whether all ranges of a call's output may be written.
 fn may_put(owners: &Owners, got: &[Got]) -> bool
-    requires { AreFilled (map written_value got.now) }
-    ensures { MayPut (owns owners.now true) (map written_value got.now) result }
+    requires { AreFilled (map got_value got.now) }
+    ensures { MayPut (owns owners.now true) (map got_value got.now) result }
 {
     for range in got {
         let len = range.bytes.len();
@@ -81,8 +81,8 @@ impl LoneMemory {
 
     /// Writes what a call gives, where all of it may be written.
     pub(crate) fn put(&mut self, got: &[Got]) -> bool
-        requires { AreFilled (map written_value got.now) }
-        ensures { GivesOrRefutes (put_in (own_memory self.old) (map written_value got.now)) result (own_memory self.new) }
+        requires { AreFilled (map got_value got.now) }
+        ensures { GivesOrRefutes (put_own (own_memory self.old) (map got_value got.now)) result (own_memory self.new) }
     {
         if !may_put(&self.owners, got) {
             return false;

@@ -5,13 +5,13 @@ use Rattle.rv32im_step.specs.Meaning.{next, meaning}
 use Rattle.byte_words.specs.ByteMap.{Bytes}
 
 -- an instruction adds no byte to the map and takes none away
-abbrev pub BytesStay : Type 0
-BytesStay =
+abbrev pub BytesRemain : Type 0
+BytesRemain =
     (regs after : Regs) (m now : Bytes) (w : ℕ → Bool) → meaning regs m w ≡ next after now → (i : ℕ) →
     is_some (now i) ≡ is_some (m i)
 
 -- a byte that may not be written stays as it is
-abbrev pub UnwritableStay : Type 0
-UnwritableStay =
+abbrev pub UnwritableRemains : Type 0
+UnwritableRemains =
     (regs after : Regs) (m now : Bytes) (w : ℕ → Bool) → meaning regs m w ≡ next after now → (i : ℕ) → w i ≡ false →
     now i ≡ m i

@@ -5,7 +5,7 @@ use Rattle.std.specs.List.{slice_index_or}
 use Rattle.std.proofs.lemmas.Bool.{and_parts, false_from_ne_true, false≢true}
 use Rattle.std.proofs.lemmas.Bool.Decides.{nat_tests}
 use Rattle.byte_words.specs.ByteMap.{Bytes, with_byte, with_bytes}
-use Rattle.call_log.specs.Notes.{Written}
+use Rattle.call_log.specs.Notes.{GotRange}
 use Rattle.call_log.specs.Sent.{Span}
 use Rattle.nommu_regions.specs.Regions.{is_copy}
 use Rattle.mmap_rules.specs.declared.mapping.Mapping.{Mapping}
@@ -53,7 +53,7 @@ unwritten m w addr (b ∷ bs) a may locked =
     byte_away (with_bytes m (addr + 1) bs) addr b a (λ e. (let both = sym parts.0 ∙ ap w e ∙ locked in cc))
     ∙ unwritten m w (addr + 1) bs a parts.1 locked
 
-pub put_keeps : (gots : List Written) (m now : Bytes) (w : ℕ → Bool) (a : ℕ) → put_got m w gots ≡ Ok now → w a ≡ false → now a ≡ m a
+pub put_keeps : (gots : List GotRange) (m now : Bytes) (w : ℕ → Bool) (a : ℕ) → put_got m w gots ≡ Ok now → w a ≡ false → now a ≡ m a
 put_keeps [] m now w a is locked = let same : m ≡ now = cc in ap (λ (f : Bytes). f a) (sym same)
 put_keeps (got ∷ gots) m now w a is locked =
     put_one m is locked (λ mid rest. put_keeps gots mid now w a rest locked)

@@ -6,7 +6,7 @@ use Rattle.std.proofs.lemmas.List.{append-nil}
 use Rattle.byte_words.specs.ByteMap.{Bytes}
 use Rattle.rv32im_step.specs.declared.regs.Regs.{Regs}
 use Rattle.rv32im_step.specs.Meaning.{Meaning, next, call, meaning}
-use Rattle.call_log.specs.Notes.{Written}
+use Rattle.call_log.specs.Notes.{GotRange}
 use Rattle.call_log.specs.Sent.{Span, sent}
 use Rattle.mmap_rules.specs.Space.{Space, writable_in}
 use Rattle.vfork_exec.specs.declared.family.State.{State}
@@ -47,7 +47,7 @@ same_words : (xs : List ℕ) → is_same xs xs ≡ true
 same_words [] = refl
 same_words (x ∷ xs) = let h = eqb_same x x refl in let t = same_words xs in rw (h, t) refl
 
-pub tells : (p : Process) (s : Space) (w : World) (bytes : List ℕ) (value : ℕ) (got : List Written) → is_call (runner_of p) bytes (entry_of (ask_of w p s bytes) value got) ≡ true
+pub tells : (p : Process) (s : Space) (w : World) (bytes : List ℕ) (value : ℕ) (got : List GotRange) → is_call (runner_of p) bytes (entry_of (ask_of w p s bytes) value got) ≡ true
 unfolding is_call
 tells p s w bytes value got =
     let pid = eqb_same p.pid p.pid refl in

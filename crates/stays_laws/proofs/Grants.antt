@@ -22,11 +22,12 @@ use Rattle.mmap_rules.specs.Held.{IsMapping, page_address}
 use Rattle.mmap_rules.specs.Want.{pages_for, map_shared, map_private, map_fixed, map_anonymous, prot_write, of_side, shared_side, wanted_file, just_one, wanted}
 use Rattle.mmap_rules.specs.Mappings.{copied_from}
 use Rattle.mmap_rules.proofs.Lists.{Found, found_any}
+use Rattle.mmap_rules.specs.Copies.{wanted_bytes, pages_of}
 use Rattle.vfork_exec.specs.Keyed.{find}
 use Rattle.flat_loader.specs.Alone.{memory_of, own_of, writable_of, may_lie}
 use Rattle.machine_world.specs.World.{LiveSpace, World, id_of}
 use Rattle.machine_world.specs.Free.{free_runs_in}
-use Rattle.machine_world.specs.MapCalls.{all_maps, lowest, has_pages, shared, in_copy, pages_of, own_run, in_free_run, first_bytes, or_own}
+use Rattle.machine_world.specs.MapCalls.{all_maps, lowest, has_pages, shared, in_copy, own_run, in_free_run, or_own}
 use Rattle.stays_laws.specs.Sound.{HoldsFile, HoldsSource, IsSound}
 use Rattle.stays_laws.proofs.Frame.{ranges_of, owned, writable}
 use Rattle.stays_laws.proofs.Wanted.{IsThere}
@@ -108,11 +109,11 @@ pub record Grant (nodes : Inodes) (s : Space) (want : Want) (m : Mapping) : Type
   pub begins : m.range.from % 4096 ≡ 0
   pub above : 2 ^ 31 ≤ m.range.from
   pub below : m.range.from + m.range.size ≤ 2 ^ 31 + 4096 * 16384
-  pub lies : may_lie (memory_of s) m.range.writes m.range.from (first_bytes nodes want) ≡ true
+  pub lies : may_lie (memory_of s) m.range.writes m.range.from (wanted_bytes nodes want) ≡ true
 
-pub length-first_bytes : (nodes : Inodes) (want : Want) → length (first_bytes nodes want) ≡ 4096 * pages_of want
-length-first_bytes nodes (Anon pages) = length-replicate {A = ℕ} (4096 * pages) 0
-length-first_bytes nodes (File pages first write id change) = length-file_pages (bytes_of nodes id) first pages
+pub length-wanted_bytes : (nodes : Inodes) (want : Want) → length (wanted_bytes nodes want) ≡ 4096 * pages_of want
+length-wanted_bytes nodes (Anon pages) = length-replicate {A = ℕ} (4096 * pages) 0
+length-wanted_bytes nodes (File pages first write id change) = length-file_pages (bytes_of nodes id) first pages
 
 own_some : (s : Space) (a : ℕ) → own_of (ranges_of s.maps) a ≡ true → Found Mapping (λ m. in_range m.range a) s.maps
 unfolding own_in
@@ -129,15 +130,15 @@ module _ (w : World) (sound : IsSound w) (i : ℕ) (s : LiveSpace) (has : find i
   -- ---- in a fresh run
 
   module _ (want : Want) (page : ℕ) (free : IsFree w.rest.pages w.spaces page (pages_of want)) where
-    fresh_lies : (writes : Bool) → may_lie (memory_of s.space) writes (page_address page) (first_bytes w.rest.tree want) ≡ true
+    fresh_lies : (writes : Bool) → may_lie (memory_of s.space) writes (page_address page) (wanted_bytes w.rest.tree want) ≡ true
     fresh_lies writes =
-        lies_all (memory_of s.space) writes (page_address page) (first_bytes w.rest.tree want)
-        (λ k b there own. absurd (nobody k (slice_get_within (first_bytes w.rest.tree want) k b there) own))
+        lies_all (memory_of s.space) writes (page_address page) (wanted_bytes w.rest.tree want)
+        (λ k b there own. absurd (nobody k (slice_get_within (wanted_bytes w.rest.tree want) k b there) own))
       where
-        nobody : (k : ℕ) → k < length (first_bytes w.rest.tree want) → own_of (ranges_of s.space.maps) (page_address page + k) ≡ true → ⊥
+        nobody : (k : ℕ) → k < length (wanted_bytes w.rest.tree want) → own_of (ranges_of s.space.maps) (page_address page + k) ≡ true → ⊥
         nobody k less own =
             let n = own_some s.space (page_address page + k) own in
-            let len = length-first_bytes w.rest.tree want in
+            let len = length-wanted_bytes w.rest.tree want in
             let here = in_page w.rest.pages n.item (page_address page + k) (is_mapping n.at n.item n.there) n.passes in
             let not_here = not_held w.spaces (page_of (page_address page + k)) i s n.at n.item
             (free.free (page_of (page_address page + k)) (page_from page k) (page_to page (pages_of want) k (omega (arith, less, len)))) has n.there in
@@ -152,7 +153,7 @@ module _ (w : World) (sound : IsSound w) (i : ℕ) (s : LiveSpace) (has : find i
       begins = omega (arith, from);
       above = omega (arith, from);
       below = (let inside = free.inside in let most = sound.most in omega (arith, from, size, inside, most));
-      lies = subst (λ a. may_lie (memory_of s.space) m.range.writes a (first_bytes w.rest.tree want) ≡ true) (sym from) (fresh_lies m.range.writes);
+      lies = subst (λ a. may_lie (memory_of s.space) m.range.writes a (wanted_bytes w.rest.tree want) ≡ true) (sym from) (fresh_lies m.range.writes);
     }
 
   own_grant : (want : Want) (page : ℕ) → IsFree w.rest.pages w.spaces page (pages_of want) → Grant w.rest.tree s.space want (own_run want page)
@@ -212,11 +213,11 @@ module _ (w : World) (sound : IsSound w) (i : ℕ) (s : LiveSpace) (has : find i
         by false is = refl
         by true is = absurd (never is)
 
-    lies_over : (k b : ℕ) → slice_get (first_bytes w.rest.tree want) k ≡ Some b → own_of (ranges_of s.space.maps) (start + k) ≡ true
+    lies_over : (k b : ℕ) → slice_get (wanted_bytes w.rest.tree want) k ≡ Some b → own_of (ranges_of s.space.maps) (start + k) ≡ true
         → LiesOver (memory_of s.space) false (start + k) b
     lies_over k b there own =
-        let within = slice_get_within (first_bytes w.rest.tree want) k b there in
-        let len = length-first_bytes w.rest.tree want in
+        let within = slice_get_within (wanted_bytes w.rest.tree want) k b there in
+        let len = length-wanted_bytes w.rest.tree want in
         let less : k < 4096 * pages = omega (arith, within, len) in
         let n = own_some s.space (start + k) own in
         let sh = shares k less n.at n.item n.there n.passes in
@@ -249,8 +250,8 @@ module _ (w : World) (sound : IsSound w) (i : ℕ) (s : LiveSpace) (has : find i
           begins = omega (arith, start_is);
           above = omega (arith, start_is);
           below = omega (arith, start_is, inside, most, low, high);
-          lies = subst (λ a. may_lie (memory_of s.space) false a (first_bytes w.rest.tree want) ≡ true) (sym start_is)
-              (lies_all (memory_of s.space) false start (first_bytes w.rest.tree want) lies_over);
+          lies = subst (λ a. may_lie (memory_of s.space) false a (wanted_bytes w.rest.tree want) ≡ true) (sym start_is)
+              (lies_all (memory_of s.space) false start (wanted_bytes w.rest.tree want) lies_over);
         }
 
   -- ---- what mmap2 chooses

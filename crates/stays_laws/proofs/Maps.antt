@@ -16,12 +16,13 @@ use Rattle.mmap_rules.specs.Held.{page_address}
 use Rattle.mmap_rules.specs.Want.{wanted}
 use Rattle.mmap_rules.specs.Mappings.{copied_from, file_pages}
 use Rattle.mmap_rules.proofs.Mapped.{run_is, part_is}
+use Rattle.mmap_rules.specs.Copies.{wanted_bytes, pages_of}
 use Rattle.mem_files.specs.Inodes.{Inodes, bytes_of}
 use Rattle.vfork_exec.specs.Keyed.{Falls}
 use Rattle.machine_world.specs.World.{id_of}
 use Rattle.machine_world.specs.Free.{free_runs_in}
 use Rattle.machine_world.specs.Asks.{Ask, arg, view_of, with_ok}
-use Rattle.machine_world.specs.MapCalls.{all_maps, in_copy, with_mapping, lower, lowest, has_pages, shared, pages_of, own_run, in_free_run, first_bytes, maps, or_own, mapped, file_side, mmap2_row}
+use Rattle.machine_world.specs.MapCalls.{all_maps, in_copy, with_mapping, lower, lowest, has_pages, shared, own_run, in_free_run, maps, or_own, mapped, file_side, mmap2_row}
 use Rattle.stays_laws.specs.Sound.{ShareCopy, Apart, AreApart, HoldsSource}
 use Rattle.stays_laws.proofs.Apart.{apart_copy}
 use Rattle.stays_laws.proofs.LaidBytes.{length-file_pages}
@@ -91,7 +92,7 @@ module _ (a : Ask) (front back : List Mapping) (b : ℕ) (falls : Falls id_of b 
   nodes = a.rest.tree
 
   abbrev More : Want → Mapping → Type 0
-  More want m = IsMore a.rest.pages (front ++ (a.space.maps ++ back)) a.space nodes m (first_bytes nodes want)
+  More want m = IsMore a.rest.pages (front ++ (a.space.maps ++ back)) a.space nodes m (wanted_bytes nodes want)
 
   apart_here : (m : Mapping) → ((j : ℕ) (n : Mapping) → slice_get (all_maps a.spaces) j ≡ Some n → Apart n m)
       → (j : ℕ) (n : Mapping) → slice_get (front ++ (a.space.maps ++ back)) j ≡ Some n → Apart n m
@@ -185,7 +186,7 @@ module _ (a : Ask) (front back : List Mapping) (b : ℕ) (falls : Falls id_of b 
   fit_maps : (want : Want) (o : Option Mapping) → IsWanted nodes want → or_own (in_copy a.spaces want) (own_choice want) ≡ o
       → InSpace (IsFit a.rest.pages front back nodes) (maps a want o)
   fit_maps want None known is = fit
-  fit_maps want (Some m) known is = fit_more a.rest.pages front back nodes a.space m (first_bytes nodes want) fit (chosen_more want m known is)
+  fit_maps want (Some m) known is = fit_more a.rest.pages front back nodes a.space m (wanted_bytes nodes want) fit (chosen_more want m known is)
 
   fit_wanted : (o : Result Want Errno) → wanted (arg a 0) (arg a 1) (arg a 2) (arg a 3) (arg a 5) (file_side a) ≡ o
       → InSpace (IsFit a.rest.pages front back nodes) (with_ok a o (mapped a))

@@ -15,12 +15,13 @@ use Rattle.mmap_rules.specs.declared.want.Want.{Want}
 use Rattle.mmap_rules.specs.declared.want.Want.TheVariants.{Anon, File}
 use Rattle.mmap_rules.specs.Want.{pages_for, map_anonymous, prot_write, wanted}
 use Rattle.mmap_rules.specs.Mappings.{Hit, hit, without_hit}
+use Rattle.mmap_rules.specs.Copies.{wanted_bytes, pages_of}
 use Rattle.vfork_exec.specs.Keyed.{find}
 use Rattle.flat_loader.specs.Alone.{Runner, Solo, Item, OwnMemory, memory_of, number_of, replied, is_errno, new_range, new_bytes, brings_all, is_placed, may_lie, may_map, with_range, with_memory, solo_mapped}
 use Rattle.machine_world.specs.World.{Process, LiveSpace, World, id_of}
 use Rattle.machine_world.specs.Free.{free_runs_in}
 use Rattle.machine_world.specs.Asks.{Ask, arg, with_ok, view_of}
-use Rattle.machine_world.specs.MapCalls.{file_side, in_copy, in_free_run, or_own, pages_of, first_bytes, with_mapping, maps, mapped, mmap2_row, over_maps, unmaps, munmap_row}
+use Rattle.machine_world.specs.MapCalls.{file_side, in_copy, in_free_run, or_own, with_mapping, maps, mapped, mmap2_row, over_maps, unmaps, munmap_row}
 use Rattle.machine_world.specs.Rows.{row}
 use Rattle.machine_world.specs.Event.{ask_of, entry_of, item_of, maps_file, brought, is_exit}
 use Rattle.machine_world.proofs.States.{with_regs}
@@ -28,7 +29,7 @@ use Rattle.stays_laws.specs.Sound.{IsSound}
 use Rattle.stays_laws.proofs.Frame.{ranges_of}
 use Rattle.stays_laws.proofs.LaidBytes.{read_back}
 use Rattle.stays_laws.proofs.Wanted.{There, there_side}
-use Rattle.stays_laws.proofs.Grants.{Asks, asked, Grant, length-first_bytes, granted}
+use Rattle.stays_laws.proofs.Grants.{Asks, asked, Grant, length-wanted_bytes, granted}
 use Rattle.stays_laws.proofs.Lists.{if_yes, if_no, eqb_same, eqb_is}
 use Rattle.stays_laws.proofs.RowSpaces.{row-munmap, row-mmap2}
 use Rattle.stays_laws.proofs.Unmapping.{unmaps_alone}
@@ -72,7 +73,7 @@ module _ (w : World) (sound : IsSound w) (p : Process) (below : List Runner) (s 
   -- what a mapping brings: nothing, or all its bytes
   abbrev Brings : Want → List ℕ → Type 0
   Brings (Anon pages) l = l ≡ []
-  Brings (File pages first write id change) l = l ≡ first_bytes w.rest.tree (File pages first write id change)
+  Brings (File pages first write id change) l = l ≡ wanted_bytes w.rest.tree (File pages first write id change)
 
   brings_nothing : (x y : Bool) (l : List ℕ) → y ≡ true → (if x && not y then l else []) ≡ []
   brings_nothing true true l is = refl
@@ -81,7 +82,7 @@ module _ (w : World) (sound : IsSound w) (p : Process) (below : List Runner) (s 
 
   module _ (is : n ≡ 222) (want : Want) (m : Mapping) (grant : Grant w.rest.tree s.space want m) where
     abbrev laid : Bytes
-    laid = with_bytes s.space.bytes m.range.from (first_bytes w.rest.tree want)
+    laid = with_bytes s.space.bytes m.range.from (wanted_bytes w.rest.tree want)
 
     abbrev entry : CallEntry
     entry = entry_of a m.range.from []
@@ -89,11 +90,11 @@ module _ (w : World) (sound : IsSound w) (p : Process) (below : List Runner) (s 
     no_errno : is_errno m.range.from ≡ false
     no_errno = let below = grant.below in not_errno m.range.from (omega (arith, below))
 
-    reads_back : (len : ℕ) → len ≡ 4096 * pages_of want → unwrap_or (bytes_from laid m.range.from len) [] ≡ first_bytes w.rest.tree want
+    reads_back : (len : ℕ) → len ≡ 4096 * pages_of want → unwrap_or (bytes_from laid m.range.from len) [] ≡ wanted_bytes w.rest.tree want
     reads_back len same =
-        let all : len ≡ length (first_bytes w.rest.tree want) = same ∙ sym (length-first_bytes w.rest.tree want) in
+        let all : len ≡ length (wanted_bytes w.rest.tree want) = same ∙ sym (length-wanted_bytes w.rest.tree want) in
         ap (λ (k : ℕ). unwrap_or (bytes_from laid m.range.from k) []) all
-        ∙ ap (λ (o : Option (List ℕ)). unwrap_or o []) (read_back s.space.bytes m.range.from (first_bytes w.rest.tree want))
+        ∙ ap (λ (o : Option (List ℕ)). unwrap_or o []) (read_back s.space.bytes m.range.from (wanted_bytes w.rest.tree want))
 
     maps_a_file : has_flag (arg a 3) map_anonymous ≡ false → maps_file entry ≡ true
     maps_a_file none = (λ j. (is j == 222) && not (no_errno j) && not (none j))
@@ -122,14 +123,14 @@ module _ (w : World) (sound : IsSound w) (p : Process) (below : List Runner) (s 
               brings_nothing (n == 222 && not (is_errno m.range.from)) (has_flag (arg a 3) map_anonymous) (unwrap_or (bytes_from laid m.range.from (4096 * pages_for (arg a 1))) []) x.flag
           by (File pages first write id change) v x =
               if_yes (maps_file entry) (unwrap_or (bytes_from laid m.range.from (4096 * pages_for (arg a 1))) []) [] (maps_a_file x.flag)
-              ∙ reads_back (4096 * pages_for (arg a 1)) (ap (λ k. 4096 * k) (sym x.pages_are) ∙ ap (λ u. 4096 * pages_of u) v) ∙ ap (first_bytes w.rest.tree) (sym v)
+              ∙ reads_back (4096 * pages_for (arg a 1)) (ap (λ k. 4096 * k) (sym x.pages_are) ∙ ap (λ u. 4096 * pages_of u) v) ∙ ap (wanted_bytes w.rest.tree) (sym v)
 
       -- and the bytes behind it
       module _ (l : List ℕ) (brought_is : Brings want l) where
-        bytes_same : new_bytes m.range l ≡ first_bytes w.rest.tree want
+        bytes_same : new_bytes m.range l ≡ wanted_bytes w.rest.tree want
         bytes_same = by want grant brought_is
           where
-            by : (v : Want) → Grant w.rest.tree s.space v m → Brings v l → new_bytes m.range l ≡ first_bytes w.rest.tree v
+            by : (v : Want) → Grant w.rest.tree s.space v m → Brings v l → new_bytes m.range l ≡ wanted_bytes w.rest.tree v
             by (Anon pages) g b = if_yes m.range.anonymous (replicate m.range.size 0) l g.anonymous ∙ ap (λ k. replicate k 0) g.size
             by (File pages first write id change) g b = if_no m.range.anonymous (replicate m.range.size 0) l g.anonymous ∙ b
 
@@ -140,7 +141,7 @@ module _ (w : World) (sound : IsSound w) (p : Process) (below : List Runner) (s 
             by (Anon pages) g b = if_yes m.range.anonymous (length l == 0) (length l == m.range.size) g.anonymous ∙ ap (λ k. length k == 0) b
             by (File pages first write id change) g b =
                 if_no m.range.anonymous (length l == 0) (length l == m.range.size) g.anonymous
-                ∙ eqb_same (length l) m.range.size (ap length b ∙ length-first_bytes w.rest.tree (File pages first write id change) ∙ sym g.size)
+                ∙ eqb_same (length l) m.range.size (ap length b ∙ length-wanted_bytes w.rest.tree (File pages first write id change) ∙ sym g.size)
 
         placed : 0 < m.range.size → is_placed m.range ≡ true
         placed some =
@@ -162,7 +163,7 @@ module _ (w : World) (sound : IsSound w) (p : Process) (below : List Runner) (s 
             ap (may_lie (memory_of s.space) m.range.writes m.range.from) bytes_same ∙ grant.lies in
             (λ j. at j && all j && lies j)
 
-        with_it : with_range (memory_of s.space) m.range (new_bytes m.range l) ≡ memory_of (with_mapping s.space m (first_bytes w.rest.tree want))
+        with_it : with_range (memory_of s.space) m.range (new_bytes m.range l) ≡ memory_of (with_mapping s.space m (wanted_bytes w.rest.tree want))
         unfolding with_range
         with_it =
             let ranges : ranges_of s.space.maps ++ m.range ∷ [] ≡ ranges_of (s.space.maps ++ m ∷ []) = sym (map-append (λ (x : Mapping). x.range) s.space.maps (m ∷ [])) in
@@ -176,7 +177,7 @@ module _ (w : World) (sound : IsSound w) (p : Process) (below : List Runner) (s 
           by (File pages first write id change) g x = (let some = x.some in let are = x.pages_are in let size = g.size in omega (arith, some, are, size))
 
       maps_alone : (t : Solo) (l : List ℕ) → Brings want l → t.memory ≡ memory_of s.space
-          → solo_mapped t (record { entry = entry; brought = l }) ≡ Some (record t { memory = memory_of (with_mapping s.space m (first_bytes w.rest.tree want)) })
+          → solo_mapped t (record { entry = entry; brought = l }) ≡ Some (record t { memory = memory_of (with_mapping s.space m (wanted_bytes w.rest.tree want)) })
       maps_alone t l b same =
           (λ j. if may_map (same j) (range_same j) l then Some (record t { memory = with_range (same j) (range_same j) (new_bytes (range_same j) l) }) else None)
           ∙ if_yes (may_map (memory_of s.space) m.range l) (Some (record t { memory = with_range (memory_of s.space) m.range (new_bytes m.range l) })) None (may l b has_pages)

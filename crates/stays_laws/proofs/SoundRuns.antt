@@ -12,7 +12,7 @@ use Rattle.call_log.specs.declared.errno.Errno.{Errno}
 use Rattle.call_log.specs.declared.errno.Errno.TheVariants.{E2big, Eagain, Enomem, Einval, Enametoolong}
 use Rattle.call_log.specs.declared.how.How.TheVariants.{Exit, Signal}
 use Rattle.call_log.specs.Errno.{refusal}
-use Rattle.call_log.specs.Notes.{Written, Note, call_note, end_note, stray_note, calls_in, bytes_in, most_calls, most_bytes, has_room, weight_of}
+use Rattle.call_log.specs.Notes.{GotRange, Note, call_note, end_note, stray_note, calls_in, bytes_in, most_calls, most_bytes, has_room, weight_of}
 use Rattle.call_log.specs.Strings.{ProgramStrings, program_strings}
 use Rattle.call_log.specs.Sent.{Span, has_zero, sent}
 use Rattle.mmap_rules.specs.declared.mapping.Mapping.{Mapping}
@@ -43,7 +43,7 @@ use Rattle.machine_world.specs.MapCalls.{all_maps, unmaps, munmap_row}
 use Rattle.machine_world.specs.Rows.{row}
 use Rattle.machine_world.specs.Recordings.{room_in}
 use Rattle.machine_world.specs.Event.{Outcome, went, strays, full, idle, number_of, args_of, replied, entry_of, exit_code, noted, put_got, room_for, stepped, trapped, ended, served, put, waited, answered, exited, is_exit, reaped, told_in, waitid_behind, waitid, forked, cloned, load_of, executed, exec_at, exec_program, exec_strings, exec, classed, asked, ask_of, answer, settled, effect, in_space, by_process, at_process, event}
-use Rattle.machine_world.specs.Turns.{Walk, End, traced, stays_at, turned, turn, seen_of, going_on, quantum_turn, turns}
+use Rattle.machine_world.specs.Turns.{Walk, End, traced, remains_at, turned, turn, seen_of, going_on, quantum_turn, turns}
 use Rattle.machine_world.specs.Ages.{AreChanged, Follows, most_changes, kept_calls, most_at_boot}
 use Rattle.machine_world.proofs.Kept.{Answers, kept_outside}
 use Rattle.machine_world.proofs.ByRows.{by_rows}
@@ -208,7 +208,7 @@ module _ (w : World) (h : IsSound w) (pid : ℕ) (p : Process) (s : LiveSpace) (
     leaves_answered (waits state) fits own = leaves_waited state (own state refl)
 
     -- a reply, and bytes
-    pub leaves_given : (value : ℕ) (got : List Written) → Leaves (answered w the_ask (gives the_ask value got w.rest))
+    pub leaves_given : (value : ℕ) (got : List GotRange) → Leaves (answered w the_ask (gives the_ask value got w.rest))
     leaves_given value got =
         let r : Reply = record { value = value; got = got; rest = w.rest; space = s.space; over = false } in
         leaves_put r (put_got s.space.bytes (writable_in s.space.maps) got)
@@ -390,7 +390,7 @@ turned_leaves : (more : World → Walk) (w : World) (pid : ℕ) (o : Outcome) �
     → ((v : World) → IsSound v → MayRun v pid → IsSound (more v).world) → IsSound (turned more w pid o).world
 turned_leaves more w pid (went now t) is may h leaves on = over t.over refl
   where
-    over : (b : Bool) → t.over ≡ b → IsSound (traced t (if b then stays_at now None else more now)).world
+    over : (b : Bool) → t.over ≡ b → IsSound (traced t (if b then remains_at now None else more now)).world
     over true ends = leaves
     over false ends = on now leaves (may_run_still w pid now t may is ends)
 turned_leaves more w pid (strays access) is may h leaves on = stray_sound w (stray_note pid (seen_of access)) refl h

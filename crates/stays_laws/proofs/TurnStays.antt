@@ -8,9 +8,9 @@ use Rattle.quantum_sched.specs.Picked.{picked}
 use Rattle.machine_world.specs.World.{World}
 use Rattle.machine_world.specs.Families.{MayRun, ready_pids}
 use Rattle.machine_world.specs.Event.{Trace, Outcome, went, strays, full, idle, noted, event}
-use Rattle.machine_world.specs.Turns.{Walk, End, seen_of, traced, stays_at, turned, turn, going_on, quantum_turn, turns}
+use Rattle.machine_world.specs.Turns.{Walk, End, seen_of, traced, remains_at, turned, turn, going_on, quantum_turn, turns}
 use Rattle.machine_world.proofs.Runnable.{may_run_still, ready_found}
-use Rattle.stays_laws.specs.Stays.{Stay, collect, collect_all, stays, kept_calls_of, loads_of, AreRight}
+use Rattle.stays_laws.specs.Stays.{Stay, collect, collect_all, stays_along, kept_calls_of, loads_of, AreRight}
 use Rattle.stays_laws.specs.Sound.{IsSound}
 use Rattle.stays_laws.specs.Laws.{EventsKeepSound, TurnsKeepSound}
 
@@ -39,7 +39,7 @@ module _ (R : List Stay → World → Type 0) (strayed : (ys : List Stay) (w : W
   turned_keeps ys more w pid (went now t) is sound may right on = over t.over refl
     where
       over : (b : Bool) → t.over ≡ b
-          → R (collect_all ys (traced t (if b then stays_at now None else more now)).traces) (traced t (if b then stays_at now None else more now)).world
+          → R (collect_all ys (traced t (if b then remains_at now None else more now)).traces) (traced t (if b then remains_at now None else more now)).world
       over true ends = rights ys w pid now t sound may right is
       over false ends = on (collect ys t) now (sounds w pid now t sound may is) (may_run_still w pid now t may is ends) (rights ys w pid now t sound may right is)
   turned_keeps ys more w pid (strays a) is sound may right on = strayed ys w pid (seen_of a) right
@@ -69,7 +69,7 @@ module _ (R : List Stay → World → Type 0) (strayed : (ys : List Stay) (w : W
             at (Some end) = r
             at None = subst (λ l. R l (more walk.world).world) (sym (collect_behind ys walk.traces (more walk.world).traces)) (on (collect_all ys walk.traces) walk.world s r)
 
-    pub along_runs : (ys : List Stay) (quanta : List Quantum) (w : World) → IsSound w → R ys w → R (stays ys w quanta) (turns quanta w).world
+    pub along_runs : (ys : List Stay) (quanta : List Quantum) (w : World) → IsSound w → R ys w → R (stays_along ys w quanta) (turns quanta w).world
     unfolding turns collect_all
     along_runs ys [] w sound right = right
     along_runs ys (q ∷ qs) w sound right =

@@ -3,7 +3,7 @@ use Rattle.std.proofs.Common.{◌≡◌, ℕ, true, false, List, Option, Some, N
 use Rattle.std.specs.Prelude.{◌==◌, ◌||◌}
 use Rattle.rv32im_step.specs.Meaning.{call}
 use Rattle.call_log.specs.declared.errno.Errno.{Errno}
-use Rattle.call_log.specs.Notes.{Written}
+use Rattle.call_log.specs.Notes.{GotRange}
 use Rattle.call_log.specs.Sent.{sent}
 use Rattle.vfork_exec.specs.declared.family.Who.{Who}
 use Rattle.vfork_exec.specs.declared.family.State.TheVariants.{Ready, Waiting}
@@ -45,7 +45,7 @@ module _ (ys : List Stay) (w : World) (sound : IsSound w) (right : AreRight ys w
   isnt k other = ap (λ (n : ℕ). n == k) number ∙ other
 
   -- with a list of those that have ended
-  given_here : (ended : List Ended) (value : ℕ) (got : List Written) → Keeps ys (answered (record w { ended = ended }) a (gives a value got w.rest))
+  given_here : (ended : List Ended) (value : ℕ) (got : List GotRange) → Keeps ys (answered (record w { ended = ended }) a (gives a value got w.rest))
   given_here ended value got =
       let v : World = record w { ended = ended } in
       let fine = ended_sound w ended sound in

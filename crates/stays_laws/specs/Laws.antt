@@ -9,7 +9,7 @@ use Rattle.machine_world.specs.Turns.{turn, turns}
 use Rattle.machine_world.specs.Ages.{AreChanged, most_at_boot}
 use Rattle.machine_world.specs.Boot.{StartLine, empty_world, boot}
 use Rattle.flat_loader.specs.Alone.{most_pages}
-use Rattle.stays_laws.specs.Stays.{Stay, AreRight, collect, collect_all, stays, first_stays}
+use Rattle.stays_laws.specs.Stays.{Stay, AreRight, collect, collect_all, stays_along, first_stays}
 use Rattle.stays_laws.specs.Sound.{IsSound}
 
 -- ---- what holds of every world
@@ -43,7 +43,7 @@ TurnsKeepStays =
     (ys : List Stay) (count pid : ℕ) (w : World) → IsSound w → MayRun w pid → AreRight ys w → AreRight (collect_all ys (turn count pid w).traces) (turn count pid w).world
 
 abbrev pub RunsKeepStays : Type 0
-RunsKeepStays = (ys : List Stay) (quanta : List Quantum) (w : World) → IsSound w → AreRight ys w → AreRight (stays ys w quanta) (turns quanta w).world
+RunsKeepStays = (ys : List Stay) (quanta : List Quantum) (w : World) → IsSound w → AreRight ys w → AreRight (stays_along ys w quanta) (turns quanta w).world
 
 abbrev pub BootsBeginStays : Type 0
 BootsBeginStays =

@@ -46,8 +46,8 @@ collect_all ys [] = ys
 collect_all ys (t ∷ ts) = collect_all (collect ys t) ts
 
 -- the stays behind a run by quanta
-abbrev pub stays : List Stay → World → List Quantum → List Stay
-stays ys w quanta = collect_all ys (turns quanta w).traces
+abbrev pub stays_along : List Stay → World → List Quantum → List Stay
+stays_along ys w quanta = collect_all ys (turns quanta w).traces
 
 -- ---- at boot: one stay for each start line, with no call and no event
 

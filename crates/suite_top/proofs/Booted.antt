@@ -16,7 +16,7 @@ use Rattle.machine_world.specs.World.{Rest, World}
 use Rattle.machine_world.specs.Boot.{StartLine, BootFault, bad_start, args_too_big, no_run, Found, found, start_path, placed, fitting, located, started, then_started, all_started, empty_world, begun, boot}
 use Rattle.kept_parts.specs.Stands.{world_of}
 use Rattle.machine_world.specs.Turns.{turns}
-use Rattle.physical_turns.specs.Physical.{Physical, physical_turns, opening as memory_opening}
+use Rattle.physical_turns.specs.Physical.{Physical, turns_in, opening_in}
 use Rattle.flat_machine.specs.declared.boot.BootRefusal.{BootRefusal}
 use Rattle.flat_machine.specs.declared.boot.BootRefusal.TheVariants as refusal
 use Rattle.region_watch.specs.declared.mode.Mode.{Mode}
@@ -25,7 +25,7 @@ use Rattle.flat_machine.specs.State.{State, world, one_memory, lines_of}
 use Rattle.flat_machine.specs.Boots.{Boots}
 use Rattle.suite_top.specs.declared.telling.Telling.{Telling}
 use Rattle.host_io.specs.Host.{Told}
-use Rattle.file_commands.specs.Arguments.{Kept}
+use Rattle.file_commands.specs.Arguments.{KeptItems}
 use Rattle.file_commands.specs.Ending.{Ending, memory_ending, OrMemory}
 use Rattle.file_commands.specs.Observed.{Observed}
 use Rattle.file_commands.specs.HostCourse.{Performs}
@@ -109,14 +109,14 @@ pub boots_as : (rest : Rest) (starts : List StoredStart) (m : Manifest) (boots :
 boots_as rest starts m boots are is = ap (λ ss. boot rest (map start_line ss)) are ∙ ap (boot rest) (sym (lines_are starts)) ∙ is
 
 -- the machine's run as the definition has it
-pub ends_as : (machine : State) (kept : Option Kept) (telling : Telling) (mode : Mode) (quanta : List Quantum) (watches : List WatchLine) (dumps : List Dump) (headers : List (List ℕ)) (old new : Observed Told) (ending : Ending)
-    → machine.mode ≡ mode → one_memory machine ≡ memory_opening headers (world machine)
+pub ends_as : (machine : State) (kept : Option KeptItems) (telling : Telling) (mode : Mode) (quanta : List Quantum) (watches : List WatchLine) (dumps : List Dump) (headers : List (List ℕ)) (old new : Observed Told) (ending : Ending)
+    → machine.mode ≡ mode → one_memory machine ≡ opening_in headers (world machine)
     → (machine.mode ≡ Halt → Performs old new (kept_outcome kept (turns quanta (world machine)).world (world_ending telling quanta watches dumps (world machine))) ending)
-    → (machine.mode ≡ GoOn → Performs old new (kept_outcome kept (physical_turns quanta (one_memory machine)).now.world (memory_run_ending telling quanta watches dumps (one_memory machine))) ending)
+    → (machine.mode ≡ GoOn → Performs old new (kept_outcome kept (turns_in quanta (one_memory machine)).now.world (memory_run_ending telling quanta watches dumps (one_memory machine))) ending)
     → Performs old new (mode_outcome kept telling mode quanta watches dumps headers (world machine)) ending
 ends_as machine kept telling Halt quanta watches dumps headers old new ending is memory halt go_on = halt is
 ends_as machine kept telling GoOn quanta watches dumps headers old new ending is memory halt go_on =
-    subst (λ (p : Physical). Performs old new (kept_outcome kept (physical_turns quanta p).now.world (memory_run_ending telling quanta watches dumps p)) ending) memory (go_on is)
+    subst (λ (p : Physical). Performs old new (kept_outcome kept (turns_in quanta p).now.world (memory_run_ending telling quanta watches dumps p)) ending) memory (go_on is)
 
 pub machine_events : (machine : State) → (world machine).events ≡ machine.events
 unfolding world_of

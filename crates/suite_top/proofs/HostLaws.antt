@@ -8,7 +8,7 @@ use Rattle.host_io.specs.Host.{Files, Told}
 use Rattle.page_runs.specs.declared.place.Kind.{Kind}
 use Rattle.file_commands.specs.Outcome.{Request, load, store, Outcome, Inputs, name_of}
 use Rattle.file_commands.specs.declared.arguments.Format.{Format}
-use Rattle.file_commands.specs.Arguments.{Kept, Invocation, convert, list, check, run, trace, romfs, unromfs, replay, demo, command_of}
+use Rattle.file_commands.specs.Arguments.{KeptItems, Invocation, convert, list, check, run, trace, romfs, unromfs, replay, demo, command_of}
 use Rattle.file_commands.specs.OneFile.{with_found}
 use Rattle.file_commands.specs.Convert.{converted_outcome}
 use Rattle.file_commands.specs.Romfs.{romfs_outcome}
@@ -88,7 +88,7 @@ HasStore stored (load name ∷ requests) = HasStore stored requests
 HasStore None (store name bytes ∷ requests) = ⊥
 HasStore (Some wanted) (store name bytes ∷ requests) = (name ≡ wanted) × (requests ≡ [])
 
-run_has : (kept : Option Kept) (manifest : List ℕ) (telling : Telling) (mode : Mode) (kind : Kind) (inputs : Inputs) → HasStore (option_map (λ k. k.file) kept) (run_outcome manifest kept telling mode kind inputs).requests
+run_has : (kept : Option KeptItems) (manifest : List ℕ) (telling : Telling) (mode : Mode) (kind : Kind) (inputs : Inputs) → HasStore (option_map (λ k. k.file) kept) (run_outcome manifest kept telling mode kind inputs).requests
 run_has None = run_by (λ (o : Outcome). HasStore None o.requests) (λ tail. tt) None (λ telling shown w end. tt) (λ name o has. has) (λ name. tt)
 run_has (Some k) = run_by (λ (o : Outcome). HasStore (Some k.file) o.requests) (λ tail. tt) (Some k) (λ telling shown w end. (refl, refl)) (λ name o has. has) (λ name. tt)
 

@@ -15,7 +15,7 @@ use Rattle.region_watch.specs.declared.mode.Mode.{Mode}
 use Rattle.region_watch.specs.declared.mode.Mode.TheVariants.{Halt, GoOn}
 use Rattle.flat_machine.specs.Runs.{repeated}
 use Rattle.file_commands.specs.declared.status.Status.TheVariants as status
-use Rattle.file_commands.specs.Arguments.{Kept}
+use Rattle.file_commands.specs.Arguments.{KeptItems}
 use Rattle.file_commands.specs.Ending.{Ending, memory_ending, OrMemory}
 use Rattle.file_commands.specs.Outcome.{Outcome}
 use Rattle.file_commands.specs.Load.{at_once}
@@ -87,7 +87,7 @@ refuses_line wanted at ending why ends memory = elim why [
   | inr is ↦ ends_of_fault fault_ending wanted at ending is ends
 ]
 
-module _ (kept : Option Kept) (telling : Telling) (mode : Mode) (kind : Kind) where
+module _ (kept : Option KeptItems) (telling : Telling) (mode : Mode) (kind : Kind) where
   -- ---- behind the load of the manifest
 
   pub behind_manifest : (name : List ℕ) (old now new : Observed Told) (bytes : List ℕ) (ending : Ending) → GaveFile manifest_limit old now name bytes

@@ -9,14 +9,14 @@ use Rattle.manifest_text.specs.Manifest.{Fault, manifest_of}
 use Rattle.machine_world.specs.World.{World}
 use Rattle.machine_world.specs.Turns.{End, all_ended, stuck, out_of_quanta, stray_at, log_full, turns}
 use Rattle.machine_world.specs.Boot.{BootFault, boot}
-use Rattle.physical_turns.specs.Physical.{physical_turns, opening as memory_opening}
+use Rattle.physical_turns.specs.Physical.{turns_in, opening_in}
 use Rattle.region_watch.specs.declared.mode.Mode.{Mode}
 use Rattle.region_watch.specs.declared.mode.Mode.TheVariants.{Halt, GoOn}
 use Rattle.flat_machine.specs.Runs.{repeated}
 use Rattle.file_commands.specs.declared.status.Status.{Status}
 use Rattle.file_commands.specs.declared.status.Status.TheVariants.{Done, Stray, OutOfQuanta, LogFull, Stuck}
 use Rattle.file_commands.specs.Texts.Refusals.{manifest_tail, line_tail}
-use Rattle.file_commands.specs.Arguments.{Kept}
+use Rattle.file_commands.specs.Arguments.{KeptItems}
 use Rattle.file_commands.specs.Ending.{refused_ending}
 use Rattle.file_commands.specs.Outcome.{load, failure_ending, Outcome, Inputs, after}
 use Rattle.file_commands.specs.Load.{at_once}
@@ -35,14 +35,14 @@ use Rattle.suite_top.specs.Kept.{keep_of, kept_outcome}
 use Rattle.suite_top.specs.Run.{start_line, opening, boot_fault, world_hits, memory_hits, mode_outcome, booted_outcome, brought_outcome, files_outcome, manifest_outcome, run_outcome}
 
 -- what holds of each end
-module _ (P : Outcome → Type 0) (refused : (tail : List ℕ) → P (at_once (refused_ending tail))) (kept : Option Kept)
+module _ (P : Outcome → Type 0) (refused : (tail : List ℕ) → P (at_once (refused_ending tail))) (kept : Option KeptItems)
     (told : (telling : Telling) (shown : List ℕ) (w : World) (end : Option End) → P (kept_outcome kept w (told_ending telling shown w end))) where
   by_mode : (telling : Telling) (mode : Mode) (quanta : List Quantum) (watches : List WatchLine) (dumps : List Dump) (headers : List (List ℕ)) (w : World) → P (mode_outcome kept telling mode quanta watches dumps headers w)
   by_mode telling Halt quanta watches dumps headers w =
       let walk = turns quanta w in told telling (world_hits telling quanta watches w ++ own_dumps walk.world dumps) walk.world walk.end
   by_mode telling GoOn quanta watches dumps headers w =
-      let p = memory_opening headers w in
-      let walk = physical_turns quanta p in told telling (memory_hits telling quanta watches p ++ memory_dumps walk.now dumps) walk.now.world walk.end
+      let p = opening_in headers w in
+      let walk = turns_in quanta p in told telling (memory_hits telling quanta watches p ++ memory_dumps walk.now dumps) walk.now.world walk.end
 
   booted : (telling : Telling) (mode : Mode) (m : Manifest) (headers : List (List ℕ)) (r : Result World BootFault) → P (booted_outcome kept telling mode m headers r)
   booted telling mode m headers (Err first) = refused (line_tail (boot_fault first).line (boot_fault first).fault)

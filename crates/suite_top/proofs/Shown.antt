@@ -6,7 +6,7 @@ use Rattle.manifest_text.specs.declared.manifest.Dump.{Dump}
 use Rattle.manifest_text.specs.declared.manifest.WatchLine.{WatchLine}
 use Rattle.machine_world.specs.World.{World}
 use Rattle.machine_world.specs.Turns.{turns}
-use Rattle.physical_turns.specs.Physical.{Physical, physical_turns, has_stray, opening as memory_opening}
+use Rattle.physical_turns.specs.Physical.{Physical, turns_in, has_stray, opening_in}
 use Rattle.kept_parts.specs.InMemory.{physical_of}
 use Rattle.region_watch.specs.declared.mode.Mode.{Mode}
 use Rattle.region_watch.specs.declared.mode.Mode.TheVariants.{Halt, GoOn}
@@ -23,7 +23,7 @@ use Rattle.suite_top.specs.Report.{own_dumps, memory_dumps, shown_of, dumps_of}
 use Rattle.suite_top.specs.Telling.{told_ending, IsTold}
 use Rattle.host_io.specs.Host.{Told as Outside}
 use Rattle.file_commands.specs.declared.status.Status.TheVariants as status
-use Rattle.file_commands.specs.Arguments.{Kept}
+use Rattle.file_commands.specs.Arguments.{KeptItems}
 use Rattle.file_commands.specs.Observed.{Observed}
 use Rattle.file_commands.specs.HostCourse.{Performs}
 use Rattle.suite_top.specs.declared.course.Course.{Course}
@@ -75,11 +75,11 @@ module _ (telling : Telling) (quanta : List Quantum) (watched : List ℕ) (dumps
       with_machine result (walked_ending telling watched dumps walk) walk.world new tells world_is
 
   goes_on : old.mode ≡ GoOn → (old.mode ≡ GoOn → GoOnRuns quanta old new (Ok end))
-      → Stops (walked_on_ending telling watched dumps (physical_turns quanta (one_memory old))) (physical_turns quanta (one_memory old)).now.world
+      → Stops (walked_on_ending telling watched dumps (turns_in quanta (one_memory old))) (turns_in quanta (one_memory old)).now.world
   unfolding physical_of
   goes_on is runs =
       let (memory_is, ends) = (runs is).memory in
-      let walk = physical_turns quanta (one_memory old) in
+      let walk = turns_in quanta (one_memory old) in
       let tells : HasEnding (walked_on_ending telling watched dumps walk) result =
       subst (λ (p : Physical). HasEnding (told_ending telling (watched ++ memory_dumps p dumps) p.world walk.end) result) (sym memory_is)
       (subst (λ (dumped : List ℕ). HasEnding (told_ending telling (watched ++ dumped) (world new) walk.end) result) (shows_memory new dumps (stays ∙ is)) (told walk.end ends)) in
@@ -92,9 +92,9 @@ module _ (telling : Telling) (quanta : List Quantum) (watched : List ℕ) (dumps
       subst (λ (text : List ℕ). Stops (walked_ending telling text dumps (turns quanta (world old))) (turns quanta (world old)).world) (sym are) (halts is quiet runs)
 
   pub goes_on_with : (watches : List WatchLine) → memory_hits telling quanta watches (one_memory old) ≡ watched
-      → old.mode ≡ GoOn → (old.mode ≡ GoOn → GoOnRuns quanta old new (Ok end)) → Stops (memory_run_ending telling quanta watches dumps (one_memory old)) (physical_turns quanta (one_memory old)).now.world
+      → old.mode ≡ GoOn → (old.mode ≡ GoOn → GoOnRuns quanta old new (Ok end)) → Stops (memory_run_ending telling quanta watches dumps (one_memory old)) (turns_in quanta (one_memory old)).now.world
   goes_on_with watches are is runs =
-      subst (λ (text : List ℕ). Stops (walked_on_ending telling text dumps (physical_turns quanta (one_memory old))) (physical_turns quanta (one_memory old)).now.world) (sym are) (goes_on is runs)
+      subst (λ (text : List ℕ). Stops (walked_on_ending telling text dumps (turns_in quanta (one_memory old))) (turns_in quanta (one_memory old)).now.world) (sym are) (goes_on is runs)
 
 -- ---- behind it
 
@@ -107,18 +107,18 @@ pub is_no_failed_load : (telling : Telling) (c : Course) (old new : State) (answ
 is_no_failed_load telling c old new answer halt go_on =
     by_modes (answer.status ≢ status.HostRead) old.mode
     (λ is. let walk = turns (turns_of c) (world old) in stop_is_told (ending_in answer) telling _ walk.world walk.end (halt is).tells)
-    (λ is. let walk = physical_turns (turns_of c) (one_memory old) in stop_is_told (ending_in answer) telling _ walk.now.world walk.end (go_on is).tells)
+    (λ is. let walk = turns_in (turns_of c) (one_memory old) in stop_is_told (ending_in answer) telling _ walk.now.world walk.end (go_on is).tells)
 
 -- what is kept of the world of the machine is kept of that of the definition
-pub keeps_with : (kept : Option Kept) (answer : Answer) (s : State) (ending : Ending) (w : World) (before after : Observed Outside) (last : Ending)
+pub keeps_with : (kept : Option KeptItems) (answer : Answer) (s : State) (ending : Ending) (w : World) (before after : Observed Outside) (last : Ending)
     → Stopped ending w s answer → Performs before after (kept_outcome kept (world s) (ending_in answer)) last → Performs before after (kept_outcome kept w ending) last
 keeps_with kept answer s ending w before after last is performs =
     let of_world = subst (λ (v : World). Performs before after (kept_outcome kept v (ending_in answer)) last) is.stands performs in
     subst (λ (e : Ending). Performs before after (kept_outcome kept w e) last) is.tells of_world
 
 -- and so is what is kept of the machine's run, by its mode
-pub keeps_all : (kept : Option Kept) (telling : Telling) (mode : Mode) (c : Course) (headers : List (List ℕ)) (old new : State) (answer : Answer) (before after : Observed Outside) (last : Ending)
-    → old.mode ≡ mode → one_memory old ≡ memory_opening headers (world old) → TellsHalting telling c old new (Ok answer) → TellsGoingOn telling c old new (Ok answer)
+pub keeps_all : (kept : Option KeptItems) (telling : Telling) (mode : Mode) (c : Course) (headers : List (List ℕ)) (old new : State) (answer : Answer) (before after : Observed Outside) (last : Ending)
+    → old.mode ≡ mode → one_memory old ≡ opening_in headers (world old) → TellsHalting telling c old new (Ok answer) → TellsGoingOn telling c old new (Ok answer)
     → Performs before after (kept_outcome kept (world new) (ending_in answer)) last → Performs before after (mode_outcome kept telling mode (turns_of c) c.watches.items c.dumps.items headers (world old)) last
 keeps_all kept telling mode c headers old new answer before after last is memory halt go_on performs =
     ends_as old kept telling mode (turns_of c) c.watches.items c.dumps.items headers before after last is memory

@@ -12,7 +12,7 @@ use Rattle.file_commands.specs.Outcome.{Request, load, store, failure_ending}
 use Rattle.file_commands.specs.HostCourse.{HostCourse, complete, failed, out_of_memory, AreLoads, IsCourseOf, after_answers, told_after, FaultsAfter, EndsAfter, Performs}
 use Rattle.file_commands.specs.Delivery.{SinkStop, sink_failed, sink_memory, status_at, TookAll, CutShort, Delivery, whole, stopped_at_out, stopped_at_report, Delivered}
 use Rattle.suite_top.specs.Call.{Call, outcome_of}
-use Rattle.suite_top.specs.StatusLaws.{IsAnswer, IsWhole, AnswersAreWhole, Completes, FailsAt, ReadsFail, WritesFail, CutAtOut, CutAtReport, FilesStay, CutAtFailure, CutAtMemory, IsCut, SinksFail, IsMemoryTold, MemoryIsTold, IsSupplied, MemoryIsOneLine, HasShortage, ShortagesStop}
+use Rattle.suite_top.specs.StatusLaws.{IsAnswer, IsWhole, AnswersAreWhole, Completes, FailsAt, ReadsFail, WritesFail, CutAtOut, CutAtReport, FilesRemain, CutAtFailure, CutAtMemory, IsCut, SinksFail, IsMemoryTold, MemoryIsTold, IsSupplied, MemoryIsOneLine, HasShortage, ShortagesStop}
 use Rattle.suite_top.proofs.Outcomes.{never}
 use Rattle.suite_top.proofs.HostLaws.{told_is, loads_keep}
 
@@ -148,7 +148,7 @@ module _ (c : Call) (ending : Ending) (performs : Performs c.host c.host_after (
 
   -- where loads alone were answered no file changed
   loads_stay : (done : List Request) (k : HostCourse) → c.host_after.told ≡ option_map (told_after (outcome_of c).requests k) c.host.told
-      → ((t : Told) → (told_after (outcome_of c).requests k t).files ≡ (after_answers t done).files) → AreLoads done → FilesStay c
+      → ((t : Told) → (told_after (outcome_of c).requests k t).files ≡ (after_answers t done).files) → AreLoads done → FilesRemain c
   loads_stay done k told same loads t t_after old new =
       ap (λ (v : Told). v.files) (told_is (told_after (outcome_of c).requests k) c.host.told c.host_after.told t t_after told old new) ∙ same t ∙ loads_keep done t loads
 

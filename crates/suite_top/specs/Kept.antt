@@ -4,13 +4,13 @@ use Rattle.items_text.specs.Items.{ItemsValue}
 use Rattle.items_text.specs.Lines.{text_of}
 use Rattle.recorded_items.specs.Recorded.{recorded}
 use Rattle.machine_world.specs.World.{World}
-use Rattle.file_commands.specs.declared.arguments.Kept.{Kept as KeptArguments}
-use Rattle.file_commands.specs.Arguments.{Kept, kept_value}
+use Rattle.file_commands.specs.declared.arguments.KeptItems.{KeptItems as KeptArguments}
+use Rattle.file_commands.specs.Arguments.{KeptItems, kept_value}
 use Rattle.file_commands.specs.Ending.{Ending}
 use Rattle.file_commands.specs.Outcome.{Request, store, Outcome}
 
 -- the number of the load note, and 0 where no items are kept
-abbrev pub keep_of : Option Kept → ℕ
+abbrev pub keep_of : Option KeptItems → ℕ
 keep_of None = 0
 keep_of (Some k) = k.number
 
@@ -24,14 +24,14 @@ abbrev pub kept_text : World → List ℕ
 kept_text w = text_or_none (recorded w.recording w.notes)
 
 -- what is asked of the host behind a machine that stopped in this world: that the text becomes the file
-abbrev pub kept_requests : Option Kept → World → List Request
+abbrev pub kept_requests : Option KeptItems → World → List Request
 kept_requests None w = []
 kept_requests (Some k) w = store k.file (kept_text w) ∷ []
 
 -- and then all else is written
-abbrev pub kept_outcome : Option Kept → World → Ending → Outcome
+abbrev pub kept_outcome : Option KeptItems → World → Ending → Outcome
 kept_outcome kept w ending = record { requests = kept_requests kept w; ending = ending }
 
 -- the arguments that the program read
-abbrev pub kept_in : Option KeptArguments → Option Kept
+abbrev pub kept_in : Option KeptArguments → Option KeptItems
 kept_in kept = option_map kept_value kept

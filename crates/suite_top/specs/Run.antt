@@ -9,7 +9,7 @@ use Rattle.manifest_text.specs.Manifest.{Fault, manifest_of}
 use Rattle.machine_world.specs.World.{Rest, World}
 use Rattle.machine_world.specs.Boot.{StartLine, BootFault, bad_start, args_too_big, no_run, boot}
 use Rattle.machine_world.specs.Turns.{Walk, turns}
-use Rattle.physical_turns.specs.Physical.{Physical, Walk as PhysicalWalk, physical_turns, opening as memory_opening}
+use Rattle.physical_turns.specs.Physical.{Physical, WalkIn, turns_in, opening_in}
 use Rattle.region_watch.specs.declared.mode.Mode.{Mode}
 use Rattle.region_watch.specs.declared.mode.Mode.TheVariants.{Halt, GoOn}
 use Rattle.flat_machine.specs.Runs.{repeated}
@@ -17,7 +17,7 @@ use Rattle.flat_machine.specs.Hits.{hits, hits_in_memory}
 use Rattle.fd_tables.specs.Files.{nothing_open}
 use Rattle.run_setup.specs.declared.fault.LineFault.TheVariants as line
 use Rattle.run_setup.specs.Brought.{Brought, FaultAt, nothing_brought, all_brought}
-use Rattle.file_commands.specs.Arguments.{Kept}
+use Rattle.file_commands.specs.Arguments.{KeptItems}
 use Rattle.file_commands.specs.Texts.Refusals.{manifest_tail}
 use Rattle.file_commands.specs.Ending.{Ending, refused_ending}
 use Rattle.file_commands.specs.Outcome.{Outcome, Inputs}
@@ -69,48 +69,48 @@ abbrev pub world_ending : Telling → List Quantum → List WatchLine → List D
 world_ending telling quanta watches dumps w = walked_ending telling (world_hits telling quanta watches w) dumps (turns quanta w)
 
 -- and one that goes on behind its first stray access, over the one memory
-abbrev pub walked_on_ending : Telling → (watched : List ℕ) → List Dump → PhysicalWalk → Ending
+abbrev pub walked_on_ending : Telling → (watched : List ℕ) → List Dump → WalkIn → Ending
 walked_on_ending telling watched dumps walk = told_ending telling (watched ++ memory_dumps walk.now dumps) walk.now.world walk.end
 
 abbrev pub memory_run_ending : Telling → List Quantum → List WatchLine → List Dump → Physical → Ending
-memory_run_ending telling quanta watches dumps p = walked_on_ending telling (memory_hits telling quanta watches p) dumps (physical_turns quanta p)
+memory_run_ending telling quanta watches dumps p = walked_on_ending telling (memory_hits telling quanta watches p) dumps (turns_in quanta p)
 
 abbrev pub mode_ending : Telling → Mode → List Quantum → List WatchLine → List Dump → (headers : List (List ℕ)) → World → Ending
 mode_ending telling Halt quanta watches dumps headers w = world_ending telling quanta watches dumps w
-mode_ending telling GoOn quanta watches dumps headers w = memory_run_ending telling quanta watches dumps (memory_opening headers w)
+mode_ending telling GoOn quanta watches dumps headers w = memory_run_ending telling quanta watches dumps (opening_in headers w)
 
 -- the world in which it stopped
 abbrev pub stopped_world : Mode → List Quantum → (headers : List (List ℕ)) → World → World
 stopped_world Halt quanta headers w = (turns quanta w).world
-stopped_world GoOn quanta headers w = (physical_turns quanta (memory_opening headers w)).now.world
+stopped_world GoOn quanta headers w = (turns_in quanta (opening_in headers w)).now.world
 
 -- the items are stored that it keeps, if it keeps any
-abbrev pub mode_outcome : Option Kept → Telling → Mode → List Quantum → List WatchLine → List Dump → (headers : List (List ℕ)) → World → Outcome
+abbrev pub mode_outcome : Option KeptItems → Telling → Mode → List Quantum → List WatchLine → List Dump → (headers : List (List ℕ)) → World → Outcome
 mode_outcome kept telling mode quanta watches dumps headers w =
     kept_outcome kept (stopped_world mode quanta headers w) (mode_ending telling mode quanta watches dumps headers w)
 
 -- ---- all in order
 
-abbrev pub booted_outcome : Option Kept → Telling → Mode → Manifest → (headers : List (List ℕ)) → Result World BootFault → Outcome
+abbrev pub booted_outcome : Option KeptItems → Telling → Mode → Manifest → (headers : List (List ℕ)) → Result World BootFault → Outcome
 booted_outcome kept telling mode m headers (Err first) = at_once (fault_ending (boot_fault first))
 booted_outcome kept telling mode m headers (Ok w) = mode_outcome kept telling mode (repeated m.repeat m.quanta) m.watches m.dumps headers w
 
-abbrev pub brought_outcome : Option Kept → Telling → Mode → Kind → Manifest → Result Brought FaultAt → Outcome
+abbrev pub brought_outcome : Option KeptItems → Telling → Mode → Kind → Manifest → Result Brought FaultAt → Outcome
 brought_outcome kept telling mode kind m (Err at) = at_once (fault_ending at)
 brought_outcome kept telling mode kind m (Ok b) = booted_outcome kept telling mode m b.headers (boot (opening (keep_of kept) kind m b) (map start_line m.starts))
 
 -- where the item lines' files are there
-unfoldable pub files_outcome : Option Kept → Telling → Mode → Kind → Manifest → List (List ℕ) → Outcome
+unfoldable pub files_outcome : Option KeptItems → Telling → Mode → Kind → Manifest → List (List ℕ) → Outcome
 files_outcome kept telling mode kind m files = brought_outcome kept telling mode kind m (all_brought m.items files nothing_brought)
 
 -- behind the manifest
-abbrev pub items_outcome : Option Kept → Telling → Mode → Kind → Manifest → Inputs → Outcome
+abbrev pub items_outcome : Option KeptItems → Telling → Mode → Kind → Manifest → Inputs → Outcome
 items_outcome kept telling mode kind m inputs = with_items files_limit m.items (files_outcome kept telling mode kind m) inputs
 
-abbrev pub manifest_outcome : Option Kept → Telling → Mode → Kind → Result Manifest Fault → Inputs → Outcome
+abbrev pub manifest_outcome : Option KeptItems → Telling → Mode → Kind → Result Manifest Fault → Inputs → Outcome
 manifest_outcome kept telling mode kind (Err first) inputs = at_once (refused_ending (manifest_tail first.line first.fault))
 manifest_outcome kept telling mode kind (Ok m) inputs = items_outcome kept telling mode kind m inputs
 
 -- the manifest is load 0, and the files of its items are the loads behind it
-unfoldable pub run_outcome : (name : List ℕ) → Option Kept → Telling → Mode → Kind → Inputs → Outcome
+unfoldable pub run_outcome : (name : List ℕ) → Option KeptItems → Telling → Mode → Kind → Inputs → Outcome
 run_outcome name kept telling mode kind inputs = with_load manifest_limit None name (λ bytes. manifest_outcome kept telling mode kind (manifest_of bytes)) inputs

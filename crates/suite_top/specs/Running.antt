@@ -5,7 +5,7 @@ use Rattle.quantum_sched.specs.declared.Quantum.{Quantum}
 use Rattle.region_watch.specs.declared.mode.Mode.TheVariants.{Halt, GoOn}
 use Rattle.machine_world.specs.World.{World}
 use Rattle.machine_world.specs.Turns.{turns}
-use Rattle.physical_turns.specs.Physical.{physical_turns}
+use Rattle.physical_turns.specs.Physical.{turns_in}
 use Rattle.flat_machine.specs.State.{State, world, one_memory}
 use Rattle.flat_machine.specs.Runs.{repeated}
 use Rattle.file_commands.specs.declared.answer.Answer.{Answer}
@@ -35,4 +35,4 @@ TellsHalting telling c old new result =
 
 abbrev pub TellsGoingOn : Telling → Course → (old new : State) → Result Answer AllocError → Type 0
 TellsGoingOn telling c old new result =
-    old.mode ≡ GoOn → IfOk result (Stopped (memory_run_ending telling (turns_of c) c.watches.items c.dumps.items (one_memory old)) (physical_turns (turns_of c) (one_memory old)).now.world new)
+    old.mode ≡ GoOn → IfOk result (Stopped (memory_run_ending telling (turns_of c) c.watches.items c.dumps.items (one_memory old)) (turns_in (turns_of c) (one_memory old)).now.world new)

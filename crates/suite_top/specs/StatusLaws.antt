@@ -84,8 +84,8 @@ pub record CutAtReport (stop : SinkStop) (c : Call) : Type 0 where
   pub report : CutShort stop c.report c.report_after (outcome_of c).ending.report
 
 -- the files of a host that tells them are as before
-abbrev pub FilesStay : Call → Type 0
-FilesStay c = (t t_after : Told) → c.host.told ≡ Some t → c.host_after.told ≡ Some t_after → t_after.files ≡ t.files
+abbrev pub FilesRemain : Call → Type 0
+FilesRemain c = (t t_after : Told) → c.host.told ≡ Some t → c.host_after.told ≡ Some t_after → t_after.files ≡ t.files
 
 -- the host failed at a request, and `report` stopped behind a prefix of its line
 pub record CutAtFailure (stop : SinkStop) (c : Call) : Type 0 where
@@ -95,14 +95,14 @@ pub record CutAtFailure (stop : SinkStop) (c : Call) : Type 0 where
   pub requests : (outcome_of c).requests ≡ done ++ request ∷ rest
   pub rose : Rose c.host.faults c.host_after.faults
   pub told : c.host_after.told ≡ option_map (λ t. after_failure (after_answers t done) request) c.host.told
-  pub files : FilesStay c
+  pub files : FilesRemain c
   pub out : TookAll c.out c.out_after []
   pub report : CutShort stop c.report c.report_after (failure_ending request).report
 
 -- the call was out of memory, and `report` stopped behind a prefix of the line `memory`
 pub record CutAtMemory (stop : SinkStop) (c : Call) : Type 0 where
   pub performs : Performs c.host c.host_after (outcome_of c) memory_ending
-  pub files : FilesStay c
+  pub files : FilesRemain c
   pub out : TookAll c.out c.out_after []
   pub report : CutShort stop c.report c.report_after memory_line
 
@@ -124,7 +124,7 @@ SinksFail = (c : Call) → MeetsOutcome c → c.status ≡ SinkWrite → IsCut s
 -- the call was out of memory before any text: no file changed, and the one line is `memory`
 pub record IsMemoryTold (c : Call) : Type 0 where
   pub performs : Performs c.host c.host_after (outcome_of c) memory_ending
-  pub files : FilesStay c
+  pub files : FilesRemain c
   pub out : TookAll c.out c.out_after []
   pub report : TookAll c.report c.report_after memory_line
 

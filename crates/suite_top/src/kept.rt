@@ -6,14 +6,14 @@ ghost use Rattle.file_commands.specs.Observed.{observed};
 ghost use Rattle.file_commands.specs.HostCourse.{Performs};
 ghost use Rattle.suite_top.specs.Kept.{keep_of, kept_text, kept_outcome, kept_in};
 
-use file_commands::{Answer, Kept, Status, store_file};
+use file_commands::{Answer, KeptItems, Status, store_file};
 use flat_machine::Machine;
 use host_io::Host;
 use items_text::items_text;
 use std::alloc::{AllocError, Global};
 
 /// The load note whose space is recorded, or 0 where no items are kept.
-pub fn keep_of(kept: Option<Kept<'_>>) -> u32
+pub fn keep_of(kept: Option<KeptItems<'_>>) -> u32
     ensures { result ≡ keep_of (kept_in kept.entry) }
 {
     match kept {
@@ -26,7 +26,7 @@ pub fn keep_of(kept: Option<Kept<'_>>) -> u32
 pub fn keep_items<H: Host>(
     alloc: Global,
     machine: &Machine,
-    kept: Option<Kept<'_>>,
+    kept: Option<KeptItems<'_>>,
     answer: Answer,
     host: &mut H,
 ) -> Result<Answer, AllocError>

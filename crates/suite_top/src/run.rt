@@ -9,7 +9,7 @@ ghost use Rattle.manifest_text.specs.Laws.{AreWatches, IsItem, Reasonable};
 ghost use Rattle.machine_world.specs.Ages.{AreChanged, most_at_boot};
 ghost use Rattle.machine_world.specs.Boot.{boot};
 ghost use Rattle.kept_parts.specs.InMemory.{headers_of};
-ghost use Rattle.physical_turns.specs.Physical.{has_stray, opening};
+ghost use Rattle.physical_turns.specs.Physical.{has_stray, opening_in};
 ghost use Rattle.flat_machine.specs.State.{world, one_memory, rest_of, lines_of};
 ghost use Rattle.watch_points.specs.Points.{IsPoint, kind_of_point};
 ghost use Rattle.file_commands.specs.Observed.{observed};
@@ -36,7 +36,8 @@ use crate::telling::{Telling, told, watch_of};
 use crate::watched::{found_text, spans_of};
 use file_commands::texts::refusals::refused_manifest;
 use file_commands::{
-    Answer, Ended, Kept, MANIFEST_LIMIT, Status, load_items, load_limited, refuse_line, settled,
+    Answer, Ended, KeptItems, MANIFEST_LIMIT, Status, load_items, load_limited, refuse_line,
+    settled,
 };
 use flat_machine::{BootRefusal, Machine, Setup};
 use host_io::Host;
@@ -51,7 +52,7 @@ use watch_points::{Hits, PointKind, Span, WatchPoint};
 pub fn run_file<H: Host, F, P, Q>(
     alloc: Global,
     manifest: &str,
-    kept: Option<Kept<'_>>,
+    kept: Option<KeptItems<'_>>,
     telling: Telling,
     mode: Mode,
     chooser: &Chooser<F>,
@@ -74,7 +75,7 @@ where
 fn run_manifest<H: Host, F, P, Q>(
     alloc: Global,
     manifest: &str,
-    kept: Option<Kept<'_>>,
+    kept: Option<KeptItems<'_>>,
     telling: Telling,
     mode: Mode,
     chooser: &Chooser<F>,
@@ -115,7 +116,7 @@ pub fn run_files<H: Host, F, P, Q>(
     alloc: Global,
     manifest: Manifest,
     files: Vec<Vec<u8>>,
-    kept: Option<Kept<'_>>,
+    kept: Option<KeptItems<'_>>,
     telling: Telling,
     mode: Mode,
     chooser: &Chooser<F>,
@@ -182,7 +183,7 @@ fn boot<F: Fn(&[Run], u32) -> Option<usize>>(
     requires starts { length setup.starts.items ≤ 64 }
     requires args { (i : ℕ) → (s : StartItem) → slice_get setup.starts.items i ≡ Some s → 0 < length s.args.items }
     ensures world { Gives world boot_ending (boot (rest_of setup.pages (kind_of chooser.now) setup.paths.items setup.programs.items setup.tree setup.stdin.items setup.keep) (lines_of setup.starts.items)) result }
-    ensures memory { IfOk result (λ machine. one_memory machine ≡ opening (headers_of setup.programs.items) (world machine)) }
+    ensures memory { IfOk result (λ machine. one_memory machine ≡ opening_in (headers_of setup.programs.items) (world machine)) }
     ensures mode { IfOk result (λ machine. machine.mode ≡ setup.mode) }
     ensures quiet { IfOk result (λ machine. has_stray (world machine).notes ≡ false) }
 {

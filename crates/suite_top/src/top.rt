@@ -17,8 +17,8 @@ use crate::points::Points;
 use crate::run::run_file;
 use crate::telling::Telling;
 use file_commands::{
-    Answer, Command, Kept, Status, check_file, convert_file, deliver, list_file, read_arguments,
-    replay_file, romfs_file, texts, unromfs_file,
+    Answer, Command, KeptItems, Status, check_file, convert_file, deliver, list_file,
+    read_arguments, replay_file, romfs_file, texts, unromfs_file,
 };
 use host_io::{Host, Sink};
 use page_runs::{Kind, Run};
@@ -30,7 +30,7 @@ use watch_points::Span;
 fn run_placed<H: Host, A, B, C, P, Q>(
     alloc: Global,
     manifest: &str,
-    kept: Option<Kept<'_>>,
+    kept: Option<KeptItems<'_>>,
     telling: Telling,
     mode: Mode,
     kind: Kind,
@@ -82,7 +82,7 @@ where
     }
 }
 
-fn answer<H: Host, A, B, C, P, Q>(
+fn answer_command<H: Host, A, B, C, P, Q>(
     alloc: Global,
     arguments: &[String],
     host: &mut H,
@@ -180,7 +180,7 @@ where
     ensures host_write { result ≡ Status.HostWrite → Rose (H.faults host.old) (H.faults host.new) }
     ensures sink_write { result ≡ Status.SinkWrite → Rose (O.faults out.old) (O.faults out.new) ⊎ Rose (R.faults report.old) (R.faults report.new) }
 {
-    match answer(alloc, arguments, host, place, points) {
+    match answer_command(alloc, arguments, host, place, points) {
         Ok(answer) => deliver(
             alloc,
             answer.status,

@@ -6,7 +6,7 @@ use Rattle.rv32im_step.specs.declared.stop.Stop.TheVariants.{Call}
 use Rattle.machine_world.specs.Event.{stray_in, event, called, stray}
 use Rattle.machine_world.specs.Courses.{StandsAt}
 use Rattle.machine_world.proofs.States.{is_called}
-use Rattle.physical_turns.specs.Physical.{Physical, has_stray, first_stray, with_stray, physical_event, carried_out, called_in}
+use Rattle.physical_turns.specs.Physical.{Physical, has_stray, first_stray_in, with_stray, event_in, carried_out, called_in}
 use Rattle.physical_turns.specs.Courses.{StandsIn}
 use Rattle.physical_turns.proofs.Moves.{carried_called}
 use Rattle.kept_parts.specs.InMemory.{first_range, called_on}
@@ -20,7 +20,7 @@ module _ (p : Physical) (pid : ℕ) (stands_in : StandsIn p pid Call) (stands : 
   same_range true is = refl
   same_range false is = ap stray_in (sym (event_called is))
 
-  range_is : first_range p pid ≡ first_stray p pid
+  range_is : first_range p pid ≡ first_stray_in p pid
   unfolding first_range stray
   range_is = same_range (has_stray p.world.notes) refl
 
@@ -29,9 +29,9 @@ module _ (p : Physical) (pid : ℕ) (stands_in : StandsIn p pid Call) (stands : 
   called_noted None = let s = stands_in in carried_called p pid s.process s.space s.lives s.has s.means
   called_noted (Some access) = let s = stands_in in carried_called (with_stray pid (Some access) p) pid s.process s.space s.lives s.has s.means
 
-  pub call_is_event : called_on p pid ≡ physical_event p pid
-  unfolding called_on physical_event
-  call_is_event = ap (λ (range : Option Access). called_in (with_stray pid range p) pid) range_is ∙ sym (called_noted (first_stray p pid))
+  pub call_is_event : called_on p pid ≡ event_in p pid
+  unfolding called_on event_in
+  call_is_event = ap (λ (range : Option Access). called_in (with_stray pid range p) pid) range_is ∙ sym (called_noted (first_stray_in p pid))
 
 pub calls_are_events : CallsAreEvents
 calls_are_events p pid stands_in stands = call_is_event p pid stands_in stands

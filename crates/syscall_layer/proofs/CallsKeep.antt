@@ -102,16 +102,16 @@ module _ (pages : ℕ) where
   }
 
   module _ (p : Physical) (h : Same true pages p.world) where
-    in_home_of : (q : Process) (o : Option LiveSpace) → AfterHas (Same true pages) (physical.in_space (λ r s. settled_in (answer_in p r s)) q o)
+    in_home_of : (q : Process) (o : Option LiveSpace) → AfterHas (Same true pages) (physical.in_space_in (λ r s. settled_in (answer_in p r s)) q o)
     in_home_of q None = tt
     in_home_of q (Some s) = by_effect_in (Same true pages) (λ w. Has pages) steady p q s.space call h
 
-    in_memory_of : (o : Option Process) → AfterHas (Same true pages) (physical.by_process p.world.spaces (λ r s. settled_in (answer_in p r s)) o)
+    in_memory_of : (o : Option Process) → AfterHas (Same true pages) (physical.by_process_in p.world.spaces (λ r s. settled_in (answer_in p r s)) o)
     in_memory_of None = tt
     in_memory_of (Some q) = in_home_of q (find id_of q.space p.world.spaces)
 
     called_in_keeps : (pid : ℕ) → AfterHas (Same true pages) (called_in p pid)
-    unfolding called_in physical.at_process
+    unfolding called_in physical.at_process_in
     called_in_keeps pid = in_memory_of (find pid_of pid p.world.procs)
 
 -- ---- marks of pipes
@@ -151,16 +151,16 @@ module _ (w : World) where
   called_unmarked pid = world_unmarked (find pid_of pid w.procs)
 
 module _ (p : Physical) where
-  home_in_unmarked : (q : Process) (o : Option LiveSpace) → Goes Unmarked (physical.in_space (λ r s. settled_in (answer_in p r s)) q o)
+  home_in_unmarked : (q : Process) (o : Option LiveSpace) → Goes Unmarked (physical.in_space_in (λ r s. settled_in (answer_in p r s)) q o)
   home_in_unmarked q None = tt
   home_in_unmarked q (Some s) = settled_in_unmarked (answer_in p q s.space)
 
-  memory_unmarked : (o : Option Process) → Goes Unmarked (physical.by_process p.world.spaces (λ r s. settled_in (answer_in p r s)) o)
+  memory_unmarked : (o : Option Process) → Goes Unmarked (physical.by_process_in p.world.spaces (λ r s. settled_in (answer_in p r s)) o)
   memory_unmarked None = tt
   memory_unmarked (Some q) = home_in_unmarked q (find id_of q.space p.world.spaces)
 
   called_in_unmarked : (pid : ℕ) → Goes Unmarked (called_in p pid)
-  unfolding called_in physical.at_process
+  unfolding called_in physical.at_process_in
   called_in_unmarked pid = memory_unmarked (find pid_of pid p.world.procs)
 
 -- ---- of the parts

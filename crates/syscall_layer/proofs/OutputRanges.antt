@@ -7,7 +7,7 @@ use Rattle.std.proofs.lemmas.List.Elements.{All-nil, All-cons}
 use Rattle.byte_words.specs.ByteMap.{little_bytes}
 use Rattle.byte_words.proofs.ByteArrays.{length-little_bytes}
 use Rattle.call_log.specs.declared.errno.Errno.TheVariants.{Ebadf, Einval}
-use Rattle.call_log.specs.Notes.{Written}
+use Rattle.call_log.specs.Notes.{GotRange}
 use Rattle.call_log.specs.Sent.{Span, piece_at}
 use Rattle.mem_files.specs.declared.node.Node.{Node}
 use Rattle.mem_files.specs.declared.node.Node.TheVariants.{Dir, File}
@@ -20,13 +20,13 @@ use Rattle.fd_tables.specs.Files.{OpenFiles, two_free}
 use Rattle.fd_tables.specs.Pipes.{pipe_view, pipe_bytes}
 use Rattle.vfork_exec.specs.declared.family.State.TheVariants.{Ready, OnPipe}
 use Rattle.machine_world.specs.Asks.{Ask, arg, Row, replies, waits, refuses, view_of, with_view}
-use Rattle.machine_world.specs.Descriptors.{table_of, close_on_exec, ends_bytes, opens_pipe, pipe2_row, position_from, base_of, sought, seek_row, llseek_row, listing, written_at, is_short, listed, list_row, folder_row, dents_row, getdents_row}
+use Rattle.machine_world.specs.Descriptors.{table_of, close_on_exec, ends_bytes, opens_pipe, pipe2_row, position_from, base_of, sought, seek_row, llseek_row, listing, got_at, is_short, listed, list_row, folder_row, dents_row, getdents_row}
 use Rattle.machine_world.specs.Transfers.{scattered, moved_bytes, read_waits, taken_read, pipe_read, node_read, target_read, read_into, read_row, readv_row}
 use Rattle.machine_world.specs.Rows.{row}
 use Rattle.page_runs.specs.declared.place.Kind.TheVariants.{First}
 use Rattle.file_calls.specs.declared.call.Call.{Call}
 use Rattle.file_calls.specs.declared.outcome.Outcome.{Outcome}
-use Rattle.file_calls.specs.Calls.{MadeBy, IsOutput, is_output, written_of}
+use Rattle.file_calls.specs.Calls.{MadeBy, IsOutput, is_output, got_of}
 use Rattle.file_calls.specs.Outcomes.{GivesRow}
 use Rattle.file_calls.proofs.Listed.{listing_fits}
 use Rattle.call_bytes.specs.Puts.{IsRange}
@@ -41,7 +41,7 @@ Ranged (waits state) = Unit {0}
 none_ranged : All IsRange []
 none_ranged = All-nil IsRange
 
-more_ranged : (w : Written) (ws : List Written) → IsRange w → All IsRange ws → All IsRange (w ∷ ws)
+more_ranged : (w : GotRange) (ws : List GotRange) → IsRange w → All IsRange ws → All IsRange (w ∷ ws)
 more_ranged w ws first rest = All-cons IsRange w ws first rest
 
 ranged_view : (a : Ask) (v : Option View) (rows : View → Row) → ((x : View) → Ranged (rows x)) → Ranged (with_view a v rows)
@@ -101,7 +101,7 @@ ranged_pipe2 a =
 
 -- ---- getdents64
 
-ranged_at : (addr : ℕ) (bytes : List ℕ) → length bytes < 2 ^ 32 → All IsRange (written_at addr bytes)
+ranged_at : (addr : ℕ) (bytes : List ℕ) → length bytes < 2 ^ 32 → All IsRange (got_at addr bytes)
 ranged_at addr [] few = none_ranged
 ranged_at addr (b ∷ bytes) few = more_ranged (record { addr = addr; bytes = b ∷ bytes }) [] (omega arith, few) none_ranged
 
@@ -230,7 +230,7 @@ asked_of call tree files = record {
   sent = call.sent.items;
 }
 
-pub ranges_of : (call : Call) (tree : Inodes) (files : OpenFiles) (o : Outcome) → IsOutput call.number → slice_index call.args 2 < 2 ^ 32 → GivesRow row call tree files o → All IsRange (written_of o)
+pub ranges_of : (call : Call) (tree : Inodes) (files : OpenFiles) (o : Outcome) → IsOutput call.number → slice_index call.args 2 < 2 ^ 32 → GivesRow row call tree files o → All IsRange (got_of o)
 ranges_of call tree files o output small rows =
     let a = asked_of call tree files in
     let made : MadeBy call a = record { pid = refl; parent = refl; table = refl; number = refl; args = refl; sent = refl } in

@@ -43,7 +43,7 @@ use Rattle.machine_world.specs.Descriptors.{pipe2_row}
 use Rattle.machine_world.specs.Transfers.{write_row}
 use Rattle.machine_world.specs.Event.{ended, stepped, trapped, served, exited, answer, settled, at_process as private_process, called, event, stray}
 use Rattle.machine_world.specs.Boot.{BootFault, started, all_started, boot}
-use Rattle.physical_turns.specs.Physical.{Physical, After, after, no_room, nobody, laid_behind, waitid_in, answer_in, at_process, called_in, carried_out, physical_event, physical_turn, physical_turns, first_memory, opening}
+use Rattle.physical_turns.specs.Physical.{Physical, After, after, no_room, nobody, laid_behind, waitid_in, answer_in, at_process_in, called_in, carried_out, event_in, turn_in, turns_in, first_memory, opening_in}
 use Rattle.physical_turns.proofs.Samples.{caller, still, rest_of, start, q, loaded_at, headers}
 use Rattle.kept_parts.specs.Kept.{Kept, nothing_yet}
 use Rattle.kept_parts.specs.Copies.{KnowsFile, HoldsFiles, StillHolds}
@@ -65,7 +65,7 @@ saw at range nobody = record { range = range; over = None; notes = []; bytes = [
 
 -- the call behind so many events of the program that makes a pipe beside its block and writes from there
 abbrev behind_events : ℕ → Result World BootFault → Option Physical
-behind_events n (Ok w) = Some (physical_turns (q 0 n ∷ []) (opening headers w)).now
+behind_events n (Ok w) = Some (turns_in (q 0 n ∷ []) (opening_in headers w)).now
 behind_events n (Err fault) = None
 
 abbrev seen_behind : ℕ → Option Saw
@@ -91,7 +91,7 @@ called-first_range :
       notes = makes_pipe ∷ stray_range ∷ loaded_at 2 1 0x8000_2000 ∷ loaded_at 1 0 0x8000_0000 ∷ [];
       bytes = Some 3 ∷ Some 4 ∷ [];
     })
-unfolding number_at byte_at from_base decoded opcode funct3 funct7 rd rs1 rs2 imm_i imm_s imm_b imm_u imm_j loaded stored effect meaning register with_register free_runs place refusal has_room sent read_span writable_in own_in only may_use block_pages frame_len frame frame_start frame_fits begin_space begin_regs find change without ended_behind state_behind resumed spaces_left borrows all_left_by free_runs_in pipe2_row write_row row view two_free piped with_table without_table all_descriptors pieces names is_too_long walked place_of ended stepped trapped served exited answer private_process called event stray settled all_roused laid_behind waitid_in answer_in at_process called_in carried_out physical_event physical_turn ready_pids picked physical_turns first_memory opening started all_started boot first_range called_on
+unfolding number_at byte_at from_base decoded opcode funct3 funct7 rd rs1 rs2 imm_i imm_s imm_b imm_u imm_j loaded stored effect meaning register with_register free_runs place refusal has_room sent read_span writable_in own_in only may_use block_pages frame_len frame frame_start frame_fits begin_space begin_regs find change without ended_behind state_behind resumed spaces_left borrows all_left_by free_runs_in pipe2_row write_row row view two_free piped with_table without_table all_descriptors pieces names is_too_long walked place_of ended stepped trapped served exited answer private_process called event stray settled all_roused laid_behind waitid_in answer_in at_process_in called_in carried_out event_in turn_in ready_pids picked turns_in first_memory opening_in started all_started boot first_range called_on
 called-first_range = refl
 
 -- no later one is
@@ -103,7 +103,7 @@ called-next_range :
       notes = writes_it ∷ makes_pipe ∷ stray_range ∷ loaded_at 2 1 0x8000_2000 ∷ loaded_at 1 0 0x8000_0000 ∷ [];
       bytes = Some 3 ∷ Some 4 ∷ [];
     })
-unfolding number_at byte_at from_base decoded opcode funct3 funct7 rd rs1 rs2 imm_i imm_s imm_b imm_u imm_j loaded stored effect meaning register with_register free_runs place refusal has_room sent read_span writable_in own_in only may_use block_pages frame_len frame frame_start frame_fits begin_space begin_regs find change without ended_behind state_behind resumed spaces_left borrows all_left_by free_runs_in pipe2_row write_row row view two_free piped with_table without_table all_descriptors pieces names is_too_long walked place_of ended stepped trapped served exited answer private_process called event stray settled all_roused laid_behind waitid_in answer_in at_process called_in carried_out physical_event physical_turn ready_pids picked physical_turns first_memory opening started all_started boot first_range called_on
+unfolding number_at byte_at from_base decoded opcode funct3 funct7 rd rs1 rs2 imm_i imm_s imm_b imm_u imm_j loaded stored effect meaning register with_register free_runs place refusal has_room sent read_span writable_in own_in only may_use block_pages frame_len frame frame_start frame_fits begin_space begin_regs find change without ended_behind state_behind resumed spaces_left borrows all_left_by free_runs_in pipe2_row write_row row view two_free piped with_table without_table all_descriptors pieces names is_too_long walked place_of ended stepped trapped served exited answer private_process called event stray settled all_roused laid_behind waitid_in answer_in at_process_in called_in carried_out event_in turn_in ready_pids picked turns_in first_memory opening_in started all_started boot first_range called_on
 called-next_range = refl
 
 -- ---- copies

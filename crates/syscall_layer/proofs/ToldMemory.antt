@@ -26,7 +26,7 @@ use Rattle.machine_world.specs.Event.{Trace, Outcome, went, strays, full, idle, 
 use Rattle.file_calls.specs.declared.call.Call.{Call}
 use Rattle.file_calls.specs.declared.outcome.Outcome.{Outcome as Output}
 use Rattle.file_calls.specs.declared.outcome.Then.TheVariants.{Nothing}
-use Rattle.file_calls.specs.Calls.{written_of}
+use Rattle.file_calls.specs.Calls.{got_of}
 use Rattle.flat_loader.specs.Alone.{put_got}
 use Rattle.physical_turns.specs.Physical.{Physical, After, after, no_room, in_memory, laid_behind, behind, carried, outside, killed, put_in, answered_in, full_at, reaped_in, waitid_behind_in, waitid_in}
 use Rattle.physical_turns.proofs.InMemory.{answered_begins, waited_begins}
@@ -41,7 +41,7 @@ use Rattle.kept_parts.specs.Stands.{About, later, process_of, world_of}
 use Rattle.kept_parts.specs.Families.{info_of}
 use Rattle.kept_parts.specs.Serves.{Serves}
 use Rattle.kept_parts.specs.InMemory.{physical_of, Over, GoesIn, ServesIn, UnlessStray, InReach}
-use Rattle.kept_parts.specs.Calls.{IsCall, ask_in, given, reply_of}
+use Rattle.kept_parts.specs.Calls.{IsCall, ask_in, output_reply, reply_of}
 use Rattle.kept_parts.proofs.Waits.{IsTold, looked_told, left_of, Behind, given_is, told_world, told_lives, told_is, waits_serve}
 use Rattle.kept_parts.proofs.PlainMemory.{answered_never, waited_never, mute_carried, plain_in, plain_goes}
 
@@ -134,7 +134,7 @@ module _ (p : Physical) (a : Ask) (left : List Ended) (r : Reply) where
 -- ---- a process is told of its children
 
 module _ (headers : List (List ℕ)) (a : About) (k : Kept) (e : Entry Task) (h : Held) (call : Call) (is : IsCall e call) (who : Who) (t : Waited) (o : Output)
-    (tells : looked k.procs call.pid who false ≡ Ok t) (zero_is : o.value ≡ 0) (got_is : written_of o ≡ info_at (slice_index call.args 2) (info_of t)) (then_is : o.then ≡ Nothing) where
+    (tells : looked k.procs call.pid who false ≡ Ok t) (zero_is : o.value ≡ 0) (got_is : got_of o ≡ info_at (slice_index call.args 2) (info_of t)) (then_is : o.then ≡ Nothing) where
   abbrev ask : Ask
   ask = ask_in a k e h call
 
@@ -144,7 +144,7 @@ module _ (headers : List (List ℕ)) (a : About) (k : Kept) (e : Entry Task) (h 
   abbrev gone : List Ended
   gone = left_of e.pid who t k.procs.ended
 
-  reaped_in_is : reaped_in before ask who (Ok t) ≡ full_at before (answered_in (record before { world = record before.world { ended = gone } }) ask (replies (given ask o)))
+  reaped_in_is : reaped_in before ask who (Ok t) ≡ full_at before (answered_in (record before { world = record before.world { ended = gone } }) ask (replies (output_reply ask o)))
   unfolding world_of physical_of
   reaped_in_is =
       by_told t (looked_told k.procs call.pid who t tells)
@@ -160,16 +160,16 @@ module _ (headers : List (List ℕ)) (a : About) (k : Kept) (e : Entry Task) (h 
   same_end : ended_behind (record { pid = e.pid; parent = e.parent; how = Signal outside }) gone ≡ ended_behind (record { pid = e.pid; parent = e.parent; how = Signal outside }) k.procs.ended
   same_end = ended_left (record { pid = e.pid; parent = e.parent; how = Signal outside }) who t k.procs.ended
 
-  module _ (R : After → After → Type 0) (goes : (x : Physical) → Behind (world_of a k) ask gone (given ask o) x.world → R (after x false) (after (record x { world = record x.world { ended = gone } }) false))
+  module _ (R : After → After → Type 0) (goes : (x : Physical) → Behind (world_of a k) ask gone (output_reply ask o) x.world → R (after x false) (after (record x { world = record x.world { ended = gone } }) false))
       (filled : R (no_room before) (no_room before)) (dies : (x : Physical) → R (after x true) (after x true)) where
-    reaped_beside : R (answered_in before ask (replies (given ask o))) (reaped_in before ask who (Ok t))
+    reaped_beside : R (answered_in before ask (replies (output_reply ask o))) (reaped_in before ask who (Ok t))
     unfolding world_of physical_of
     reaped_beside =
-        subst (λ (y : After). R (answered_in before ask (replies (given ask o))) y) (sym reaped_in_is)
-        (answered_beside_in before ask gone (given ask o) R goes filled dies same_end)
+        subst (λ (y : After). R (answered_in before ask (replies (output_reply ask o))) y) (sym reaped_in_is)
+        (answered_beside_in before ask gone (output_reply ask o) R goes filled dies same_end)
 
   -- its process dies, or the log has no room
-  pub untold_goes : (new : Kept) (s : Served) → s ≢ result.Replied → GoesIn headers a (answered_in before ask (replies (given ask o))) k new call.pid s →
+  pub untold_goes : (new : Kept) (s : Served) → s ≢ result.Replied → GoesIn headers a (answered_in before ask (replies (output_reply ask o))) k new call.pid s →
       GoesIn headers a (reaped_in before ask who (Ok t)) k new call.pid s
   untold_goes new s other =
       reaped_beside (λ x y. GoesIn headers a x k new call.pid s → GoesIn headers a y k new call.pid s)
@@ -185,14 +185,14 @@ module _ (headers : List (List ℕ)) (a : About) (k : Kept) (e : Entry Task) (h 
 
   -- it is told, and then the child goes
   pub told_goes : (mid : Kept) (answer : Result Waited Errno) → answer ≡ looked mid.procs call.pid who false →
-      GoesIn headers a (answered_in before ask (replies (given ask o))) k mid call.pid result.Replied →
+      GoesIn headers a (answered_in before ask (replies (output_reply ask o))) k mid call.pid result.Replied →
       GoesIn headers a (reaped_in before ask who (Ok t)) k (record mid { procs = with_wait mid.procs call.pid who answer }) call.pid result.Replied
   unfolding physical_of
   told_goes mid answer looks =
       reaped_beside (λ x y. GoesIn headers a x k mid call.pid result.Replied → GoesIn headers a y k (record mid { procs = with_wait mid.procs call.pid who answer }) call.pid result.Replied)
       replies_so (λ was. absurd was.2) (λ x was. let wrong = was.1.0 in absurd cc)
     where
-      replies_so : (x : Physical) → Behind (world_of a k) ask gone (given ask o) x.world → GoesIn headers a (after x false) k mid call.pid result.Replied →
+      replies_so : (x : Physical) → Behind (world_of a k) ask gone (output_reply ask o) x.world → GoesIn headers a (after x false) k mid call.pid result.Replied →
           GoesIn headers a (after (record x { world = record x.world { ended = gone } }) false) k (record mid { procs = with_wait mid.procs call.pid who answer }) call.pid result.Replied
       replies_so x behind was =
           let now_is : x.world ≡ world_of (later 1 a) mid = ap (λ (y : Physical). y.world) was.0 in

@@ -4,21 +4,21 @@ ghost use Rattle.std.specs.Prelude.{◌≡◌, ◌==◌, ◌≢◌, ℕ, ◌<◌
 ghost use Rattle.rv32im_step.specs.declared.access.Access.{Access};
 ghost use Rattle.call_log.specs.Numbers as numbers;
 ghost use Rattle.call_log.specs.Notes.{weight_of};
-ghost use Rattle.call_log.specs.Values.{written_value};
+ghost use Rattle.call_log.specs.Values.{got_value};
 ghost use Rattle.page_runs.specs.Choosers.{IsChooser, kind_of};
 ghost use Rattle.mmap_rules.specs.Held.{Held};
 ghost use Rattle.vfork_exec.specs.declared.entry.Entry.{Entry};
 ghost use Rattle.vfork_exec.specs.Procs.{CanRun, Lives};
 ghost use Rattle.mmap_rules.specs.Want.{AsksPages};
-ghost use Rattle.mmap_rules.specs.Sides.{sides, file_in};
-ghost use Rattle.mmap_rules.specs.Sides.{mapped as mapped_in};
+ghost use Rattle.mmap_rules.specs.MapState.{map_state, file_in};
+ghost use Rattle.mmap_rules.specs.MapState.{mapped as mapped_in};
 ghost use Rattle.mem_files.specs.Inodes.{bytes_of};
 ghost use Rattle.machine_world.specs.Asks.{Reply, replies};
 ghost use Rattle.machine_world.specs.MapCalls.{mapped};
 ghost use Rattle.machine_world.specs.Rows.{row};
 ghost use Rattle.machine_world.specs.Event.{room_for, called, classed, answered, exited, waited, settled, stray_in};
 ghost use Rattle.vfork_exec.specs.declared.family.State.TheVariants.{OnPipe};
-ghost use Rattle.file_calls.specs.Calls.{IsChange, IsOutput, DoesNotWait, written_of};
+ghost use Rattle.file_calls.specs.Calls.{IsChange, IsOutput, DoesNotWait, got_of};
 ghost use Rattle.file_calls.specs.Outcomes.{GivesRow, CanTake, HasEnds};
 ghost use Rattle.kept_parts.specs.declared.task.Task.{Task};
 ghost use Rattle.kept_parts.specs.Stands.{About, process_of, world_of};
@@ -32,12 +32,12 @@ ghost use Rattle.kept_parts.specs.InMemory.{headers_of, physical_of, ServesIn, I
 ghost use Rattle.kept_parts.specs.Reach.{writable};
 ghost use Rattle.kept_parts.specs.Serves.{Answered, Serves, Tells, WaitsAt, went_by};
 ghost use Rattle.mmap_rules.specs.Copies.{IsKnown};
-ghost use Rattle.call_bytes.specs.Puts.{first_stray, access_at, IsRange};
+ghost use Rattle.call_bytes.specs.Puts.{stray_range, access_at, IsRange};
 ghost use Rattle.kept_parts.specs.Regular.{Regular};
 ghost use Rattle.kept_parts.specs.Recorded.{room_beside};
 ghost use Rattle.kept_parts.specs.MapsIn.{IsAsked};
 ghost use Rattle.kept_parts.specs.Brings.{recorded_bytes};
-ghost use Rattle.kept_parts.specs.Calls.{LivesIn, Caller, maps_by, asked_by, reply_of, given, served_by};
+ghost use Rattle.kept_parts.specs.Calls.{LivesIn, Caller, maps_by, asked_by, reply_of, output_reply, served_by};
 ghost use Rattle.kept_parts.specs.Flats.{ForRuns};
 ghost use Rattle.syscall_layer.specs.ByMode.{HaltServes, GoOnServes};
 
@@ -48,7 +48,7 @@ use crate::family::{answer_clone, answer_exec, answer_waitid};
 use crate::parts::Parts;
 use crate::want::want_of;
 use bflt_format::Flat;
-use call_bytes::{Unread, got_len, stray_put};
+use call_bytes::{Unread, got_len, stray_got};
 use call_log::Got;
 use file_calls::{Call, Outcome, output, wait_of};
 use kept_parts::{Effect, KeptParts, Reach, Served};
@@ -82,7 +82,7 @@ pub(crate) fn has_room(parts: &KeptParts, call: &Call) -> bool
 
 /// Whether it has room for a call that gets these.
 fn has_room_with(parts: &KeptParts, call: &Call, got: &[Got]) -> bool
-    ensures room { result ≡ room_beside parts.now (weight_of call.now.sent.items (map written_value got.now)) }
+    ensures room { result ≡ room_beside parts.now (weight_of call.now.sent.items (map got_value got.now)) }
     ensures regular { Regular parts.now }
 {
     let bytes = got_len(got).saturating_add(call.sent.len() as u64);
@@ -94,7 +94,7 @@ fn recorded_len(parts: &KeptParts, pid: u32, want: Want) -> u64
     requires lives { Lives parts.now.procs pid }
     requires pages { AsksPages want }
     ensures { (a : About) → (e : Entry Task) → (h : Held) → LivesIn parts.now pid e h →
-        result ≡ recorded_bytes parts.now e.value.space want (is_some (mapped_in (sides h parts.now.regions parts.now.mem) a.kind (bytes_of parts.now.tree (file_in want)) want)) }
+        result ≡ recorded_bytes parts.now e.value.space want (is_some (mapped_in (map_state h parts.now.regions parts.now.mem) a.kind (bytes_of parts.now.tree (file_in want)) want)) }
 {
     let Want::File { pages, .. } = want else {
         return 0;
@@ -177,13 +177,13 @@ fn answer_change(parts: &mut KeptParts, call: Call) -> Result<Served, AllocError
 /// The first range that the bytes of a call may not be written to.
 fn stray_of(parts: &KeptParts, pid: u32, got: &[Got], reach: Reach) -> Option<Access>
     requires lives { Lives parts.now.procs pid }
-    requires ranges { All IsRange (map written_value got.now) }
+    requires ranges { All IsRange (map got_value got.now) }
     ensures { (e : Entry Task) → (h : Held) → LivesIn parts.now pid e h →
-        result ≡ option_map (access_at e.value.regs.pc) (first_stray (writable reach (length parts.now.regions) h) (map written_value got.now)) }
+        result ≡ option_map (access_at e.value.regs.pc) (stray_range (writable reach (length parts.now.regions) h) (map got_value got.now)) }
 {
     let task = parts.procs.get(pid);
     let owners = parts.table_of(task.space, reach);
-    stray_put(owners, task.regs.pc, got)
+    stray_got(owners, task.regs.pc, got)
 }
 
 /// What comes of an access beyond reach: it strays, and nothing is done; or it lies outside memory, and the process ends by SIGSEGV.
@@ -217,14 +217,14 @@ fn outcome_of(parts: &KeptParts, call: &Call) -> Result<Outcome, AllocError>
     ensures gives { IfOk result (GivesRow row call.now parts.now.tree parts.now.files) }
     ensures fits { IfOk result (λ o. CanTake parts.now.files o.then) }
     ensures ends { IfOk result (λ o. HasEnds parts.now.files call.now.table o.then) }
-    ensures ranges { IfOk result (λ o. All IsRange (written_of o)) }
+    ensures ranges { IfOk result (λ o. All IsRange (got_of o)) }
 {
     let alloc = *parts.console.allocator();
     output(alloc, &parts.tree, &parts.files, call)
 }
 
 /// A call that gives these bytes, where they are within reach and the log has room for them.
-pub(crate) fn answer_given(
+pub(crate) fn answer_outcome(
     parts: &mut KeptParts,
     call: Call,
     outcome: Outcome,
@@ -234,12 +234,12 @@ pub(crate) fn answer_given(
     requires strayed { reach ≡ Whole → has_stray parts.old.notes ≡ true }
     requires fits { CanTake parts.old.files outcome.then }
     requires ends { HasEnds parts.old.files call.table outcome.then }
-    requires ranges { All IsRange (written_of outcome) }
+    requires ranges { All IsRange (got_of outcome) }
     requires plain { (call.number == numbers.mmap2) ≡ false }
     ensures serves { reach ≡ Own → (a : About) → (c : Caller parts.old call) →
-        Serves a (answered (world_of a parts.old) (asked_by a c) (replies (given (asked_by a c) outcome))) parts.old parts.new call.pid result }
+        Serves a (answered (world_of a parts.old) (asked_by a c) (replies (output_reply (asked_by a c) outcome))) parts.old parts.new call.pid result }
     ensures memory { (headers : List (List ℕ)) → (a : About) → (c : Caller parts.old call) →
-        InReach reach headers a (answered_in (physical_of headers a parts.old) (asked_by a c) (replies (given (asked_by a c) outcome))) parts.old parts.new call.pid result }
+        InReach reach headers a (answered_in (physical_of headers a parts.old) (asked_by a c) (replies (output_reply (asked_by a c) outcome))) parts.old parts.new call.pid result }
     ensures holds { reach ≡ Own → HoldsFiles parts.old → HoldsFiles parts.new }
     ensures lives { result ≡ Ok Replied → Lives parts.new.procs call.pid }
     ensures leaves { IfOk result (Tells parts.old parts.new call.pid) }
@@ -269,7 +269,7 @@ fn answer_output(parts: &mut KeptParts, call: Call, reach: Reach) -> Result<Serv
     ensures leaves { IfOk result (Tells parts.old parts.new call.pid) }
 {
     let outcome = outcome_of(parts, &call)?;
-    answer_given(parts, call, outcome, reach)
+    answer_outcome(parts, call, outcome, reach)
 }
 
 /// Maps what an mmap2 asks for, where the log has room for the call, and for what it would bring where that is recorded.

@@ -10,7 +10,7 @@ ghost use Rattle.mem_files.specs.Paths.{lookup};
 ghost use Rattle.machine_world.specs.Asks.{Ask};
 ghost use Rattle.machine_world.specs.FamilyCalls.{who_of, waitid_fault, info_at};
 ghost use Rattle.machine_world.specs.Event.{waitid, reaped, cloned, exec};
-ghost use Rattle.file_calls.specs.Calls.{written_of};
+ghost use Rattle.file_calls.specs.Calls.{got_of};
 ghost use Rattle.file_calls.specs.declared.outcome.Then.TheVariants.{Nothing};
 ghost use Rattle.kept_parts.specs.Families.{info_of, mark_at};
 ghost use Rattle.kept_parts.specs.Stands.{About, world_of};
@@ -23,7 +23,7 @@ ghost use Rattle.kept_parts.specs.Serves.{Serves, Tells};
 ghost use Rattle.kept_parts.specs.Flats.{ForRuns};
 ghost use Rattle.kept_parts.specs.Calls.{Caller, asked_by};
 
-use crate::answer::{answer_effect, answer_given, has_room};
+use crate::answer::{answer_effect, answer_outcome, has_room};
 use bflt_format::Flat;
 use call_bytes::{at_zero, program_strings};
 use call_log::{Errno, Got, How};
@@ -102,7 +102,7 @@ fn info_of(alloc: Global, told: Waited) -> Result<Vec<u8>, AllocError>
 /// What a waitid gives that doesn't wait.
 fn told_outcome(alloc: Global, at: u32, told: Waited) -> Result<Outcome, AllocError>
     ensures value { IfOk result (λ o. o.value ≡ 0) }
-    ensures got { IfOk result (λ o. written_of o ≡ info_at at (info_of told)) }
+    ensures got { IfOk result (λ o. got_of o ≡ info_at at (info_of told)) }
     ensures nothing { IfOk result (λ o. o.then ≡ Nothing) }
 {
     let mut got = Vec::new(alloc);
@@ -141,7 +141,7 @@ fn answer_told(
     let alloc = *parts.console.allocator();
     let pid = call.pid;
     let outcome = told_outcome(alloc, call.args[2], told)?;
-    let served = answer_given(parts, call, outcome, reach)?;
+    let served = answer_outcome(parts, call, outcome, reach)?;
     if let Served::Replied = served {
         let _ = parts.procs.wait(pid, who, false);
     }

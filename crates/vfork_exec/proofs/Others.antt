@@ -12,7 +12,7 @@ use Rattle.vfork_exec.specs.declared.family.Waited.TheVariants.{Child, NoneYet, 
 use Rattle.vfork_exec.specs.declared.entry.Entry.{Entry}
 use Rattle.vfork_exec.specs.Families.{is_child, is_meant, is_lent_to, parent_behind, resumed, woken, state_behind, roused, ended_behind, without_first}
 use Rattle.vfork_exec.specs.Procs.{Listed, process, pid_of, behind, with_state, with_state_at, with_start, with_child, with_exec, with_end, with_wait, with_wait_on, with_wake}
-use Rattle.vfork_exec.specs.OtherLaws.{StaysBut, WakesFor, LivesOn, OthersStay, EndedStay, ended_of_others}
+use Rattle.vfork_exec.specs.OtherLaws.{RemainsBut, WakesFor, LivesOn, OthersRemain, EndedRemain, ended_of_others}
 use Rattle.vfork_exec.proofs.Keyed.{decide, eqb_same, eqb_is, find_later, find_beside_change}
 use Rattle.vfork_exec.proofs.Loops.{filter_head}
 use Rattle.vfork_exec.proofs.Values.{process_exec, process_end, process_wake, process_beside_new}
@@ -103,14 +103,14 @@ module _ {P : Type 0} where
   lives_on change g so None now is = rw is tt
   lives_on change g so (Some e) now is = rw is (so e)
 
-  exec_stays : (pid : ℕ) (e : Entry P) → StaysBut e (with_state e (resumed pid e.state))
+  exec_stays : (pid : ℕ) (e : Entry P) → RemainsBut e (with_state e (resumed pid e.state))
   exec_stays pid e = record { value = refl; parent = inl refl; state = resumed_so pid e.state; on_pipe = λ pipe is. resumed_pipe pid pipe e.state is }
 
-  end_stays : (pid parent : ℕ) (e : Entry P) → StaysBut e (behind pid parent e)
+  end_stays : (pid parent : ℕ) (e : Entry P) → RemainsBut e (behind pid parent e)
   end_stays pid parent e = record { value = refl; parent = parent_so pid e.parent; state = behind_so e.pid pid parent e.state; on_pipe = λ pipe is. behind_pipe e.pid pid parent pipe e.state is }
 
   wake_stays : (pipe : ℕ) (e : Entry P) → WakesFor pipe e (with_state e (roused pipe e.state))
-  wake_stays pipe e = record { value = refl; parent = refl; wakes = roused_it pipe e.state; stays = not_roused pipe e.state }
+  wake_stays pipe e = record { value = refl; parent = refl; wakes = roused_it pipe e.state; remains = not_roused pipe e.state }
 
   beside_state : (s : Listed P) (pid : ℕ) (state : State) (other : ℕ) → other ≢ pid → process (with_state_at s pid state) other ≡ process s other
   beside_state s pid state other differs = find_beside_change pid_of pid other differs (λ e. with_state e state) (λ e. refl) s.entries
@@ -130,18 +130,18 @@ module _ {P : Type 0} where
   ended_end : (s : Listed P) (gone : Entry P) (how : How) → (with_end s gone how).ended ≡ ended_behind (record { pid = gone.pid; parent = gone.parent; how = how }) s.ended
   ended_end s gone how = refl
 
-pub others_stay : (P : Type 0) → OthersStay P
+pub others_stay : (P : Type 0) → OthersRemain P
 others_stay P = record {
   start = λ s value other differs. process_beside_new s 0 value other differs;
   vfork = λ s parent value other fresh differs. find_later pid_of other (record { pid = s.next_pid; parent = parent; state = Ready; value = value }) (with_state_at s parent (Lent s.next_pid)).entries (λ e. fresh (sym e)) ∙ beside_state s parent (Lent s.next_pid) other differs;
-  exec_done = λ s pid other. lives_on StaysBut (λ e. with_state e (resumed pid e.state)) (exec_stays pid) (process s other) (process (with_exec s pid) other) (process_exec s pid other);
-  end = λ s gone how other differs. lives_on StaysBut (behind gone.pid gone.parent) (end_stays gone.pid gone.parent) (process s other) (process (with_end s gone how) other) (process_end s gone how other differs);
+  exec_done = λ s pid other. lives_on RemainsBut (λ e. with_state e (resumed pid e.state)) (exec_stays pid) (process s other) (process (with_exec s pid) other) (process_exec s pid other);
+  end = λ s gone how other differs. lives_on RemainsBut (behind gone.pid gone.parent) (end_stays gone.pid gone.parent) (process s other) (process (with_end s gone how) other) (process_end s gone how other differs);
   wait = λ s pid who told other differs. beside_wait s pid who told other differs;
   wait_on = λ s pid pipe other differs. beside_state s pid (OnPipe pipe) other differs;
   wake = λ s pipe other. lives_on (WakesFor pipe) (λ e. with_state e (roused pipe e.state)) (wake_stays pipe) (process s other) (process (with_wake s pipe) other) (process_wake s pipe other);
 }
 
-pub ended_stay : (P : Type 0) → EndedStay P
+pub ended_stay : (P : Type 0) → EndedRemain P
 unfolding ended_behind
 ended_stay P = record {
   start = λ s value. refl;

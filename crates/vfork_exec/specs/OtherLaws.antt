@@ -11,7 +11,7 @@ use Rattle.vfork_exec.specs.Procs.{Listed, process, with_start, with_child, with
 
 -- a process behind what another one did: what is kept of it is as before, its parent as before or none, and it stands as before or
 -- may run. Who waits on a pipe waits on
-pub record StaysBut {P : Type 0} (e now : Entry P) : Type 0 where
+pub record RemainsBut {P : Type 0} (e now : Entry P) : Type 0 where
   pub value : now.value ≡ e.value
   pub parent : (now.parent ≡ e.parent) ⊎ (now.parent ≡ 0)
   pub state : (now.state ≡ e.state) ⊎ (now.state ≡ Ready)
@@ -22,7 +22,7 @@ pub record WakesFor {P : Type 0} (pipe : ℕ) (e now : Entry P) : Type 0 where
   pub value : now.value ≡ e.value
   pub parent : now.parent ≡ e.parent
   pub wakes : e.state ≡ OnPipe pipe → now.state ≡ Ready
-  pub stays : e.state ≢ OnPipe pipe → now.state ≡ e.state
+  pub remains : e.state ≢ OnPipe pipe → now.state ≡ e.state
 
 -- who lives lives on, and so changed; and no other one lives
 abbrev pub LivesOn : {P : Type 0} → (Entry P → Entry P → Type 0) → Option (Entry P) → Option (Entry P) → Type 0
@@ -32,11 +32,11 @@ LivesOn change (Some e) None = ⊥
 LivesOn change (Some e) (Some now) = change e now
 
 -- the others of each call
-pub record OthersStay (P : Type 0) : Type 0 where
+pub record OthersRemain (P : Type 0) : Type 0 where
   pub start : (s : Listed P) (value : P) (other : ℕ) → other ≢ s.next_pid → process (with_start s value) other ≡ process s other
   pub vfork : (s : Listed P) (parent : ℕ) (value : P) (other : ℕ) → other ≢ s.next_pid → other ≢ parent → process (with_child s parent value) other ≡ process s other
-  pub exec_done : (s : Listed P) (pid other : ℕ) → LivesOn StaysBut (process s other) (process (with_exec s pid) other)
-  pub end : (s : Listed P) (gone : Entry P) (how : How) (other : ℕ) → other ≢ gone.pid → LivesOn StaysBut (process s other) (process (with_end s gone how) other)
+  pub exec_done : (s : Listed P) (pid other : ℕ) → LivesOn RemainsBut (process s other) (process (with_exec s pid) other)
+  pub end : (s : Listed P) (gone : Entry P) (how : How) (other : ℕ) → other ≢ gone.pid → LivesOn RemainsBut (process s other) (process (with_end s gone how) other)
   pub wait : (s : Listed P) (pid : ℕ) (who : Who) (told : Result Waited Errno) (other : ℕ) → other ≢ pid → process (with_wait s pid who told) other ≡ process s other
   pub wait_on : (s : Listed P) (pid pipe other : ℕ) → other ≢ pid → process (with_wait_on s pid pipe) other ≡ process s other
   pub wake : (s : Listed P) (pipe other : ℕ) → LivesOn (WakesFor pipe) (process s other) (process (with_wake s pipe) other)
@@ -46,7 +46,7 @@ abbrev pub ended_of_others : ℕ → List Ended → List Ended
 ended_of_others pid ended = filter (λ child. not (child.parent == pid)) ended
 
 -- who has ended stays until its parent asks for it or ends itself
-pub record EndedStay (P : Type 0) : Type 0 where
+pub record EndedRemain (P : Type 0) : Type 0 where
   pub start : (s : Listed P) (value : P) → (with_start s value).ended ≡ s.ended
   pub vfork : (s : Listed P) (parent : ℕ) (value : P) → (with_child s parent value).ended ≡ s.ended
   pub exec_done : (s : Listed P) (pid : ℕ) → (with_exec s pid).ended ≡ s.ended

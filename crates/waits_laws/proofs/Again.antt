@@ -5,7 +5,7 @@ use Rattle.byte_words.specs.ByteMap.{Bytes}
 use Rattle.call_log.specs.declared.errno.Errno.{Errno}
 use Rattle.call_log.specs.declared.errno.Errno.TheVariants.{Echild, Einval, Eagain, Enomem, E2big, Enametoolong}
 use Rattle.call_log.specs.Errno.{refusal}
-use Rattle.call_log.specs.Notes.{Written, weight_of}
+use Rattle.call_log.specs.Notes.{GotRange, weight_of}
 use Rattle.call_log.specs.Strings.{ProgramStrings, program_strings}
 use Rattle.call_log.specs.Sent.{Span, has_zero, sent}
 use Rattle.mmap_rules.specs.Space.{Space, writable_in}
@@ -61,7 +61,7 @@ module _ (w : World) (a : Ask) where
   one_refuses : (e : Errno) → events_of (answered w a (refuses a e)) ≡ 1
   one_refuses e = one_reply (record { value = refusal e; got = []; rest = a.rest; space = a.space; over = false })
 
-  one_gives : (value : ℕ) (got : List Written) → events_of (answered w a (gives a value got a.rest)) ≡ 1
+  one_gives : (value : ℕ) (got : List GotRange) → events_of (answered w a (gives a value got a.rest)) ≡ 1
   one_gives value got = one_reply (record { value = value; got = got; rest = a.rest; space = a.space; over = false })
 
   one_exited : events_of (exited w a) ≡ 1

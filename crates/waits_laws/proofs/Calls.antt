@@ -7,7 +7,7 @@ use Rattle.call_log.specs.declared.how.How.TheVariants.{Exit}
 use Rattle.call_log.specs.declared.errno.Errno.{Errno}
 use Rattle.call_log.specs.declared.errno.Errno.TheVariants.{Einval, Eagain, Enomem, E2big, Enametoolong}
 use Rattle.call_log.specs.Errno.{refusal}
-use Rattle.call_log.specs.Notes.{Written, call_note, weight_of}
+use Rattle.call_log.specs.Notes.{GotRange, call_note, weight_of}
 use Rattle.call_log.specs.Strings.{ProgramStrings, program_strings}
 use Rattle.call_log.specs.Sent.{Span, has_zero}
 use Rattle.flat_loader.specs.Original.{block_pages}
@@ -64,7 +64,7 @@ module _ (P : World → Type 0) (Q : Rest → Type 0) (w : World) (a : Ask) (eac
   by_put ended r (Ok m) told holds = by_served ended r m told holds
   by_put ended r (Err span) told holds = tt
 
-  by_gives : (ended : List Ended) (value : ℕ) (got : List Written) → Told w a ended → Happens P (answered (record w { ended = ended }) a (gives a value got a.rest))
+  by_gives : (ended : List Ended) (value : ℕ) (got : List GotRange) → Told w a ended → Happens P (answered (record w { ended = ended }) a (gives a value got a.rest))
   by_gives ended value got told =
       by_put ended (record { value = value; got = got; rest = a.rest; space = a.space; over = false }) (put_got a.space.bytes (writable_in a.space.maps) got) told same
 

@@ -14,7 +14,7 @@ use Rattle.vfork_exec.proofs.Keyed.{find_head}
 use Rattle.machine_world.specs.World.{Process, World, pid_of}
 use Rattle.machine_world.specs.Families.{ready_pids}
 use Rattle.machine_world.specs.Event.{Outcome, went, strays, full, idle, event}
-use Rattle.machine_world.specs.Turns.{Walk, End, stuck, stays_at, traced, turned, turn, going_on, quantum_turn, last_end, turns}
+use Rattle.machine_world.specs.Turns.{Walk, End, stuck, remains_at, traced, turned, turn, going_on, quantum_turn, last_end, turns}
 use Rattle.waits_laws.specs.Waits.{WaitsAgain, IfWaits, HasVforkChild, WaitsWell}
 use Rattle.waits_laws.specs.Laws.{WaitsOrLent, StuckRunsWait}
 use Rattle.waits_laws.proofs.WaitRuns.{runs_keep_waits}
@@ -24,7 +24,7 @@ use Rattle.waits_laws.proofs.WaitRuns.{runs_keep_waits}
 turned_goes : (more : World → Walk) (w : World) (pid : ℕ) (o : Outcome) → ((v : World) → (more v).end ≡ Some stuck → ⊥) → (turned more w pid o).end ≡ Some stuck → ⊥
 turned_goes more w pid (went now t) on is = over t.over is
   where
-    over : (b : Bool) → (traced t (if b then stays_at now None else more now)).end ≡ Some stuck → ⊥
+    over : (b : Bool) → (traced t (if b then remains_at now None else more now)).end ≡ Some stuck → ⊥
     over true is = cc
     over false is = on now is
 turned_goes more w pid (strays access) on is = cc

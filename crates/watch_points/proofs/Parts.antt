@@ -13,7 +13,7 @@ use Rattle.mmap_rules.specs.declared.owners.PageOwner.{PageOwner}
 use Rattle.region_watch.specs.declared.mode.Mode.{Mode}
 use Rattle.region_watch.specs.declared.mode.Mode.TheVariants.{Halt}
 use Rattle.region_watch.specs.Private.{passes, passed_bytes, kept_bytes}
-use Rattle.region_watch.specs.Strays.{noted_all, noted_stop}
+use Rattle.region_watch.specs.Strays.{stray_after_all, stray_after_stop}
 use Rattle.region_watch.specs.Instructions.{Ran, ran, instructions, asked_behind, all_asked}
 use Rattle.region_watch.proofs.Runs.{none_done, run_goes, run_stops, asked_on, asked_stops}
 use Rattle.region_watch.proofs.StepNotes.{step_halts}
@@ -71,7 +71,7 @@ left_on n mode table regs mid after mem half now first later last near done more
       frozen = b.frozen ∙ a.frozen;
       size = b.size ∙ a.size;
       strays = rw left (b.strays ∙ a.strays);
-      halts = λ halt. b.halts halt ∙ ap (λ (f : Option Access). noted_stop f stop) (a.halts halt);
+      halts = λ halt. b.halts halt ∙ ap (λ (f : Option Access). stray_after_stop f stop) (a.halts halt);
       told = rw left (append_assoc seen new (near_in near (rest_asked stop (n - done - more) (passes mode table true) after (passed_bytes mode table now)))
           ∙ ap (λ (zs : List Access). seen ++ zs) b.told ∙ a.told);
     }
@@ -85,7 +85,7 @@ pub record Stepped (mode : Mode) (table : List PageOwner) (regs : Regs) (mem : L
   pub means : Means (meaning regs (passed_bytes mode table mem) (passes mode table true)) regs after (passed_bytes mode table mem) (passed_bytes mode table now) stop
   pub frozen : kept_bytes mode table now ≡ kept_bytes mode table mem
   pub size : length now ≡ length mem
-  pub strays : last ≡ noted_all table first (asked regs (passed_bytes mode table mem) (passes mode table true))
+  pub strays : last ≡ stray_after_all table first (asked regs (passed_bytes mode table mem) (passes mode table true))
   pub sees : seen ≡ seen_all near None (asked regs (passed_bytes mode table mem) (passes mode table true))
 
 -- in modes and under tables that are one
@@ -93,7 +93,7 @@ pub stepped : (mode was is : Mode) (table before behind : List PageOwner) (regs 
     → was ≡ mode → is ≡ was → before ≡ table → behind ≡ before → close ≡ near → unseen ≡ None → length mem ≡ 4096 * length before
     → Means (meaning regs (passed_bytes was before mem) (passes was before true)) regs after (passed_bytes was before mem) (passed_bytes is behind now) stop
     → kept_bytes is behind now ≡ kept_bytes was before mem → length now ≡ length mem
-    → last ≡ noted_all before first (asked regs (passed_bytes was before mem) (passes was before true))
+    → last ≡ stray_after_all before first (asked regs (passed_bytes was before mem) (passes was before true))
     → seen ≡ seen_all close unseen (asked regs (passed_bytes was before mem) (passes was before true))
     → Stepped mode table regs mem first near stop after now last seen
 stepped mode was is table before behind regs after mem now first last near close stop unseen seen mode_was mode_is one two same fresh paged means frozen len noted sees = record {
@@ -151,7 +151,7 @@ step_goes n mode table regs after mem now first last near stop seen some s is =
       frozen = s.frozen;
       size = s.size;
       strays = asked_on 0 n mode mode mode table table table mem now regs after stop first last _ some refl refl refl refl s.means is s.strays (rw all refl);
-      halts = λ halt. step_halts mode table mem regs after (passed_bytes mode table now) first last stop halt s.paged s.means s.strays ∙ ap (noted_stop first) is;
+      halts = λ halt. step_halts mode table mem regs after (passed_bytes mode table now) first last stop halt s.paged s.means s.strays ∙ ap (stray_after_stop first) is;
       told = near_goes n (passes mode table true) near regs after (passed_bytes mode table mem) (passed_bytes mode table now) seen some (rw is at s.means) s.sees;
     }
 
@@ -168,7 +168,7 @@ step_stops n mode table regs after mem now first last near stop seen some s othe
           ∙ rw all (none_done (instructions n w regs (passed_bytes mode table mem)));
       frozen = s.frozen;
       size = s.size;
-      strays = ap (noted_all table last) nothing ∙ asked_stops 0 n mode mode mode table table table mem now regs after stop first last _ some refl refl refl refl s.means other s.strays (rw all refl);
+      strays = ap (stray_after_all table last) nothing ∙ asked_stops 0 n mode mode mode table table table mem now regs after stop first last _ some refl refl refl refl s.means other s.strays (rw all refl);
       halts = λ halt. step_halts mode table mem regs after (passed_bytes mode table now) first last stop halt s.paged s.means s.strays;
       told = ap (λ (zs : List Asked). listed seen ++ near_in near zs) nothing ∙ ap (λ (zs : List Access). listed seen ++ zs) (near_in-nil near) ∙ append-nil (listed seen)
           ∙ near_stops n w near regs after (passed_bytes mode table mem) (passed_bytes mode table now) stop seen some s.means other s.sees;
@@ -250,9 +250,9 @@ reached_leaves n mode table regs after mem now first last near kind spans pid fo
 pub reached_first : (n : ℕ) (mode : Mode) (table : List PageOwner) (regs after : Regs) (mem now : List ℕ) (first last : Option Access) (near : Near) (kind : PointKind) (spans : List Span) (pid : ℕ)
     (found kept : Found) (done : ℕ) (stop : Stop) → (stop ≡ Next → n - done ≡ 0)
     → Reached n mode table regs mem first near kind spans pid found done stop after now last kept
-    → last ≡ noted_all table first (all_asked n (passes mode table true) regs (passed_bytes mode table mem))
+    → last ≡ stray_after_all table first (all_asked n (passes mode table true) regs (passed_bytes mode table mem))
 reached_first n mode table regs after mem now first last near kind spans pid found kept done stop over r =
-    ap (noted_all table last) (sym (over_asked stop (n - done) (passes mode table true) after (passed_bytes mode table now) over)) ∙ r.left.strays
+    ap (stray_after_all table last) (sym (over_asked stop (n - done) (passes mode table true) after (passed_bytes mode table now) over)) ∙ r.left.strays
 
 pub reached_hits : (n : ℕ) (mode : Mode) (table : List PageOwner) (regs after : Regs) (mem now : List ℕ) (first last : Option Access) (near : Near) (kind : PointKind) (spans : List Span) (pid : ℕ)
     (found kept : Found) (done : ℕ) (stop : Stop) → (stop ≡ Next → n - done ≡ 0) → IsNear near spans
@@ -284,8 +284,8 @@ pub record Told (n : ℕ) (mode : Mode) (table : List PageOwner) (regs : Regs) (
   pub leaves : ran after (passed_bytes mode table now) done stop ≡ instructions n (passes mode table true) regs (passed_bytes mode table mem)
   pub frozen : kept_bytes mode table now ≡ kept_bytes mode table mem
   pub size : length now ≡ length mem
-  pub strays : last ≡ noted_all table first (all_asked n (passes mode table true) regs (passed_bytes mode table mem))
-  pub halts : mode ≡ Halt → last ≡ noted_stop first stop
+  pub strays : last ≡ stray_after_all table first (all_asked n (passes mode table true) regs (passed_bytes mode table mem))
+  pub halts : mode ≡ Halt → last ≡ stray_after_stop first stop
   pub hits : kept ≡ with_hits found (hits_in kind spans pid (all_asked n (passes mode table true) regs (passed_bytes mode table mem)))
 
 pub reached_told : (n : ℕ) (mode : Mode) (table : List PageOwner) (regs after : Regs) (mem now : List ℕ) (first last : Option Access) (near : Near) (kind : PointKind) (spans : List Span) (pid : ℕ)

@@ -11,7 +11,7 @@ use Rattle.mmap_rules.specs.declared.owners.PageOwner.{PageOwner}
 use Rattle.region_watch.specs.declared.mode.Mode.{Mode}
 use Rattle.region_watch.specs.declared.mode.Mode.TheVariants.{Halt}
 use Rattle.region_watch.specs.Private.{passes, passed_bytes, kept_bytes}
-use Rattle.region_watch.specs.Strays.{noted_all, noted_stop}
+use Rattle.region_watch.specs.Strays.{stray_after_all, stray_after_stop}
 use Rattle.region_watch.specs.Instructions.{Ran, ran, instructions, all_asked}
 use Rattle.watch_points.specs.declared.near.Near.{Near}
 use Rattle.watch_points.specs.declared.span.Span.{Span}
@@ -102,8 +102,8 @@ pub record Left (n : ℕ) (mode : Mode) (table : List PageOwner) (regs : Regs) (
       ≡ instructions n (passes mode table true) regs (passed_bytes mode table mem)
   pub frozen : kept_bytes mode table now ≡ kept_bytes mode table mem
   pub size : length now ≡ length mem
-  pub strays : noted_all table last (rest_asked stop (n - done) (passes mode table true) after (passed_bytes mode table now))
-      ≡ noted_all table first (all_asked n (passes mode table true) regs (passed_bytes mode table mem))
-  pub halts : mode ≡ Halt → last ≡ noted_stop first stop
+  pub strays : stray_after_all table last (rest_asked stop (n - done) (passes mode table true) after (passed_bytes mode table now))
+      ≡ stray_after_all table first (all_asked n (passes mode table true) regs (passed_bytes mode table mem))
+  pub halts : mode ≡ Halt → last ≡ stray_after_stop first stop
   pub told : seen ++ near_in near (rest_asked stop (n - done) (passes mode table true) after (passed_bytes mode table now))
       ≡ near_in near (all_asked n (passes mode table true) regs (passed_bytes mode table mem))

@@ -6,7 +6,7 @@ ghost use Rattle.rv32im_step.specs.declared.stop.Stop.TheVariants.{Next};
 ghost use Rattle.region_watch.specs.declared.mode.Mode.TheVariants.{Halt};
 ghost use Rattle.region_watch.specs.Private.{passes, passed_bytes, kept_bytes};
 ghost use Rattle.region_watch.specs.Instructions.{instructions, ran, all_asked};
-ghost use Rattle.region_watch.specs.Strays.{noted_all, noted_stop};
+ghost use Rattle.region_watch.specs.Strays.{stray_after_all, stray_after_stop};
 ghost use Rattle.region_watch.specs.Watched.{first_stray};
 ghost use Rattle.watch_points.specs.Near.{Left, listed, told};
 ghost use Rattle.watch_points.specs.Points.{AreSpans, IsPoint, IsShort, hits_in, kind_of_point, with_hits};
@@ -120,9 +120,9 @@ fn run_beside<F: Fn(&[Span], u32, u32) -> bool>(
     ensures length { length watch.new.mem.now ≡ length watch.old.mem.now }
     ensures owners { watch.new.owners.now ≡ watch.old.owners.now }
     ensures mode { watch.new.mode ≡ watch.old.mode }
-    ensures first { first_stray watch.new ≡ noted_all watch.old.owners.now (first_stray watch.old)
+    ensures first { first_stray watch.new ≡ stray_after_all watch.old.owners.now (first_stray watch.old)
         (all_asked count (passes watch.old.mode watch.old.owners.now true) regs.old (passed_bytes watch.old.mode watch.old.owners.now watch.old.mem.now)) }
-    ensures halts { watch.old.mode ≡ Halt → first_stray watch.new ≡ noted_stop (first_stray watch.old) result.stop }
+    ensures halts { watch.old.mode ≡ Halt → first_stray watch.new ≡ stray_after_stop (first_stray watch.old) result.stop }
     ensures same_reference { watch.new.mem.ghost_name ≡ watch.old.mem.ghost_name }
     ensures hits { hits.new ≡ with_hits hits.old (hits_in (kind_of_point point.now) spans.now pid
         (all_asked count (passes watch.old.mode watch.old.owners.now true) regs.old (passed_bytes watch.old.mode watch.old.owners.now watch.old.mem.now))) }
@@ -164,9 +164,9 @@ pub fn run_watched<F: Fn(&[Span], u32, u32) -> bool>(
     ensures length { length watch.new.mem.now ≡ length watch.old.mem.now }
     ensures owners { watch.new.owners.now ≡ watch.old.owners.now }
     ensures mode { watch.new.mode ≡ watch.old.mode }
-    ensures first { first_stray watch.new ≡ noted_all watch.old.owners.now (first_stray watch.old)
+    ensures first { first_stray watch.new ≡ stray_after_all watch.old.owners.now (first_stray watch.old)
         (all_asked count (passes watch.old.mode watch.old.owners.now true) regs.old (passed_bytes watch.old.mode watch.old.owners.now watch.old.mem.now)) }
-    ensures halts { watch.old.mode ≡ Halt → first_stray watch.new ≡ noted_stop (first_stray watch.old) result.stop }
+    ensures halts { watch.old.mode ≡ Halt → first_stray watch.new ≡ stray_after_stop (first_stray watch.old) result.stop }
     ensures same_reference { watch.new.mem.ghost_name ≡ watch.old.mem.ghost_name }
     ensures hits { hits.new ≡ with_hits hits.old (hits_in (kind_of_point point.now) spans.now pid
         (all_asked count (passes watch.old.mode watch.old.owners.now true) regs.old (passed_bytes watch.old.mode watch.old.owners.now watch.old.mem.now))) }

@@ -1,5 +1,5 @@
 -- What a run begins with is in order, and its turns keep it so, over private spaces and over one memory.
-use Rattle.physical_turns.specs.Physical.{opening as memory_opening}
+use Rattle.physical_turns.specs.Physical.{opening_in}
 use Rattle.physical_turns.proofs.OrderIn.{openings_keep_order, runs_keep_order_in}
 use Rattle.command_laws.proofs.BootedRuns.{begins_in_order, has_worlds_in_order}
 use Rattle.command_laws.proofs.RunLaws.{reasonable}
@@ -11,4 +11,4 @@ returns-clause-worlds c inputs name keep kind o = has_worlds_in_order (reasonabl
 pub returns-clause-memory : goal.returns-clause-memory
 returns-clause-memory c inputs name keep kind o quanta =
     let b = o.booted in
-    runs_keep_order_in quanta (memory_opening b.brought.headers b.world) (openings_keep_order b.brought.headers b.world (begins_in_order (reasonable o) b))
+    runs_keep_order_in quanta (opening_in b.brought.headers b.world) (openings_keep_order b.brought.headers b.world (begins_in_order (reasonable o) b))

@@ -3,7 +3,7 @@ use Rattle.std.proofs.Common.{◌≡◌, ◌≢◌, ℕ, Bool, false, List, ◌+
 use Rattle.page_runs.specs.declared.place.Kind.{Kind}
 use Rattle.rv32im_step.specs.declared.access.Access.{Access}
 use Rattle.machine_world.specs.Turns.{stray_at}
-use Rattle.physical_turns.specs.Physical.{Physical, has_stray, opening as memory_opening}
+use Rattle.physical_turns.specs.Physical.{Physical, has_stray, opening_in}
 use Rattle.physical_turns.proofs.Growth.{runs_leave_programs}
 use Rattle.go_on_laws.specs.Alike.{Stands}
 use Rattle.go_on_laws.specs.Laws.{GoesAlike}
@@ -31,7 +31,7 @@ use Rattle.command_laws.proofs.run_laws.go_on_law.Goals as goal
 
 module _ {inputs : Inputs} {name : List ℕ} {keep : ℕ} {kind : Kind} (o : Opens inputs name keep kind) where
   abbrev one : Physical
-  one = memory_opening o.booted.brought.headers o.booted.world
+  one = opening_in o.booted.brought.headers o.booted.world
 
   stands : Stands o.booted.world one
   stands =
@@ -53,11 +53,11 @@ module _ {inputs : Inputs} {name : List ℕ} {keep : ℕ} {kind : Kind} (o : Ope
       (hits_alike point (map span_of o.manifest.watches) (repeated o.manifest.repeat o.manifest.quanta) o.booted.world one (sound (reasonable o) o.booted) stands unstrayed never)
 
   same_programs : (going_on o).now.world.rest.programs ≡ (halting o).world.rest.programs
-  unfolding memory_opening
+  unfolding opening_in
   same_programs =
       let quanta = repeated o.manifest.repeat o.manifest.quanta in
       let b = o.booted in
-      (runs_leave_programs quanta (memory_opening b.brought.headers b.world)).programs ∙ sym (programs_stay b.world.rest.programs quanta b.world refl)
+      (runs_leave_programs quanta (opening_in b.brought.headers b.world)).programs ∙ sym (programs_stay b.world.rest.programs quanta b.world refl)
 
 pub returns-clause-worlds : goal.returns-clause-worlds
 returns-clause-worlds c inputs name keep kind o = goes_on_well (halting o) (going_on o) (goes_alike o)

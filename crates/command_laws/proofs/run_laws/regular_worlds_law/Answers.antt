@@ -1,6 +1,6 @@
 -- By what is said of each run, and of its one memory by the laws of refusals.
 use Rattle.std.proofs.Common.{map}
-use Rattle.physical_turns.specs.Physical.{opening as memory_opening}
+use Rattle.physical_turns.specs.Physical.{opening_in}
 use Rattle.memory_refusals.proofs.Kept.{boots_are_regular_in, runs_keep_regular_in}
 use Rattle.suite_top.specs.Run.{start_line, opening}
 use Rattle.command_laws.proofs.BootedRuns.{can_boot, few_starts, closed, has_regular_worlds}
@@ -15,5 +15,5 @@ returns-clause-memory c inputs name keep kind o quanta =
     let is = reasonable o in
     let b = o.booted in
     let headers = b.brought.headers in
-    runs_keep_regular_in quanta (memory_opening headers b.world)
+    runs_keep_regular_in quanta (opening_in headers b.world)
     (boots_are_regular_in (opening keep kind o.manifest b.brought) (map start_line o.manifest.starts) b.world headers (can_boot is b) (closed is b) (few_starts is b) b.boots)

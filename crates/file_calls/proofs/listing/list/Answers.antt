@@ -17,6 +17,6 @@ returns-clause-gives c = λ a made same_tree v at_is.
     sym (from_least entries c.args.at c.min-from.result Bool (λ n es. is_short room es) (λ n. refl) from_is) ∙ sym c.if-is_short.ensures in
     let is = c.in_ok-listing.ensures.listed ∙ from_least entries c.args.at c.min-from.result Listing (λ n es. listing c.args.tree.now room n es) (λ n. refl) from_is in
     list_gives a c.args.tree.now same_tree v (drop c.args.at entries) room c.args.call.now made c.args.at at_is (listing_value c.in_ok-listing.listing) long is
-    (record { value = c.len.result; got = c.in_ok-written_at.field-0; then = Move (slice_index c.args.call.now.args 0) (c.args.at + c.from-2.result) })
-    (search rules) c.in_ok-written_at.ensures
+    (record { value = c.len.result; got = c.in_ok-got_at.field-0; then = Move (slice_index c.args.call.now.args 0) (c.args.at + c.from-2.result) })
+    (search rules) c.in_ok-got_at.ensures
     (ap (λ n. Move (slice_index c.args.call.now.args 0) (c.args.at + n)) c.from-2.ensures)

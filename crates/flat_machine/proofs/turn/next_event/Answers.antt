@@ -6,7 +6,7 @@ use Rattle.rv32im_step.specs.declared.access.Access.{Access}
 use Rattle.rv32im_step.specs.declared.stop.Stop.TheVariants.{Refused}
 use Rattle.vfork_exec.specs.Procs.{CanRun}
 use Rattle.machine_world.specs.Event.{Outcome, strays, event}
-use Rattle.physical_turns.specs.Physical.{has_stray, first_stray}
+use Rattle.physical_turns.specs.Physical.{has_stray, first_stray_in}
 use Rattle.kept_parts.specs.Copies.{HoldsFiles}
 use Rattle.kept_parts.specs.Flats.{ForRuns}
 use Rattle.kept_parts.specs.InMemory.{headers_of, physical_of}
@@ -71,8 +71,8 @@ stray-requires-clause-first g c go =
     let memory = rw c.in-Strays.is at c.in_ok-after.ensures.memory in
     let so_it_is = stray_same (kind_of c.args.chooser.now) c.args.parts.now.programs c.args.parts.now.kept c.event_within.new.parts.kept c.args.pid c.in-Strays.access c.args.mode c.requires.halting (λ halt. halts (c.requires.mode ∙ halt)) (λ go. memory (c.requires.mode ∙ go)) in
     let same = parts_same c.args.parts.now c.event_within.new.parts so_it_is.0 c.in_ok-after.ensures.programs c.in_ok-after.ensures.mode (c.in_ok-after.ensures.noted ∙ ap (λ (k : Kept). has_stray k.notes) so_it_is.0 ∙ sym c.requires.noted) in
-    let first : ForRuns (kind_of c.args.chooser.now) c.args.parts.now.programs (λ a. first_stray (physical_of (headers_of c.args.parts.now.programs) a c.args.parts.now.kept) c.args.pid ≡ Some c.in-Strays.access) = λ a so are. (memory (c.requires.mode ∙ go) a so are).0 in
-    subst (λ (p : RunParts). ForRuns (kind_of c.args.chooser.now) p.programs (λ a. first_stray (physical_of (headers_of p.programs) a p.kept) c.args.pid ≡ Some c.in-Strays.access)) (sym same) first
+    let first : ForRuns (kind_of c.args.chooser.now) c.args.parts.now.programs (λ a. first_stray_in (physical_of (headers_of c.args.parts.now.programs) a c.args.parts.now.kept) c.args.pid ≡ Some c.in-Strays.access) = λ a so are. (memory (c.requires.mode ∙ go) a so are).0 in
+    subst (λ (p : RunParts). ForRuns (kind_of c.args.chooser.now) p.programs (λ a. first_stray_in (physical_of (headers_of p.programs) a p.kept) c.args.pid ≡ Some c.in-Strays.access)) (sym same) first
 
 pub returns-clause-halts : goal.returns-clause-halts
 returns-clause-halts g c halt =

@@ -1,7 +1,7 @@
 use Rattle.std.proofs.Common.{Some, refl, sym, subst, ◌∙◌}
 use Rattle.std.proofs.lemmas.Option.{same_Some, get_or_from_slice_get}
 use Rattle.mmap_rules.specs.Held.{Held, AreMappings}
-use Rattle.mmap_rules.specs.Sides.{freed, unmapped, Unmaps}
+use Rattle.mmap_rules.specs.MapState.{freed, unmapped, Unmaps}
 use Rattle.kept_parts.proofs.maps.unmap_in.Goals as goal
 
 pub returns : goal.returns

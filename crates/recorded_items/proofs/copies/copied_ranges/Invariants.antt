@@ -1,7 +1,7 @@
 -- The ranges so far.
 use Rattle.std.proofs.Common.{◌≡◌, take, map}
-use Rattle.call_log.specs.Values.{written_value}
+use Rattle.call_log.specs.Values.{got_value}
 use Rattle.recorded_items.proofs.copies.copied_ranges.Given as goal
 
 abbrev pub invariant-loop-range : goal.invariant-loop-range
-invariant-loop-range l = map written_value l.copies.items ≡ map written_value (take l.range-index l.ranges)
+invariant-loop-range l = map got_value l.copies.items ≡ map got_value (take l.range-index l.ranges)

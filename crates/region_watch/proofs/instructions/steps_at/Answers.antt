@@ -1,7 +1,7 @@
 -- A step keeps what the loop keeps, and its accesses tell the first stray access.
 use Rattle.std.proofs.Common.{rules, ◌≡◌, ◌+◌, ◌-◌, ◌<◌, ap, ◌∙◌, arith}
 use Rattle.rv32im_step.specs.declared.stop.Stop.TheVariants.{Next, Refused}
-use Rattle.region_watch.specs.Strays.{noted_stop}
+use Rattle.region_watch.specs.Strays.{stray_after_stop}
 use Rattle.region_watch.proofs.Runs.{whole_on, asked_on, asked_stops, kept_on}
 use Rattle.region_watch.proofs.StepNotes.{step_halts}
 use Rattle.region_watch.proofs.instructions.steps_at.Goals as goal
@@ -18,7 +18,7 @@ returns-in-Call-clause-halts c = λ halt.
     let first = step_halts _ _ _ _ _ _ _ _ c.step_at-stop.result (c.loop-left.invariant.mode ∙ halt) c.loop-left.watch.paged c.step_at-stop.ensures.means c.step_at-stop.ensures.did.5 in
     let same : c.step_at-stop.result ≡ c.at_call.result.stop = search rules in
     let now = rw (c.loop-left.invariant.halts halt) at first in
-    now ∙ ap (noted_stop c.args.watch.now.first) same
+    now ∙ ap (stray_after_stop c.args.watch.now.first) same
 
 pub returns-in-Trap-clause-first : goal.returns-in-Trap-clause-first
 returns-in-Trap-clause-first c =
@@ -32,7 +32,7 @@ returns-in-Trap-clause-halts c = λ halt.
     let first = step_halts _ _ _ _ _ _ _ _ c.step_at-stop.result (c.loop-left.invariant.mode ∙ halt) c.loop-left.watch.paged c.step_at-stop.ensures.means c.step_at-stop.ensures.did.5 in
     let same : c.step_at-stop.result ≡ c.at_trap.result.stop = search rules in
     let now = rw (c.loop-left.invariant.halts halt) at first in
-    now ∙ ap (noted_stop c.args.watch.now.first) same
+    now ∙ ap (stray_after_stop c.args.watch.now.first) same
 
 pub returns-in-Refused-clause-first : goal.returns-in-Refused-clause-first
 returns-in-Refused-clause-first c =
@@ -46,7 +46,7 @@ returns-in-Refused-clause-halts c = λ halt.
     let first = step_halts _ _ _ _ _ _ _ _ c.step_at-stop.result (c.loop-left.invariant.mode ∙ halt) c.loop-left.watch.paged c.step_at-stop.ensures.means c.step_at-stop.ensures.did.5 in
     let same : c.step_at-stop.result ≡ Refused c.in-Refused.access = search rules in
     let now = rw (c.loop-left.invariant.halts halt) at first in
-    now ∙ ap (noted_stop c.args.watch.now.first) same
+    now ∙ ap (stray_after_stop c.args.watch.now.first) same
 
 pub loop-left-preserved : goal.loop-left-preserved
 loop-left-preserved c =
@@ -67,6 +67,6 @@ loop-left-preserved c =
       bound = omega (arith, c.loop-left.invariant.bound);
       halts = λ halt.
           step_halts _ _ _ _ _ _ _ _ c.step_at-stop.result (c.loop-left.invariant.mode ∙ halt) c.loop-left.watch.paged c.step_at-stop.ensures.means c.step_at-stop.ensures.did.5
-          ∙ ap (noted_stop c.loop-left.watch.first) next ∙ c.loop-left.invariant.halts halt;
+          ∙ ap (stray_after_stop c.loop-left.watch.first) next ∙ c.loop-left.invariant.halts halt;
       name = c.step_at-stop.ensures.did.0 ∙ c.loop-left.invariant.name;
     }

@@ -10,7 +10,7 @@ returns-in-Ok-clause-host_write g c =
     let out = observed_sink g.O.Sink.told g.O.Sink.faults g.O.Sink.shortages in
     let report = observed_sink g.R.Sink.told g.R.Sink.faults g.R.Sink.shortages in
     let delivers = rw (c.deref.ensures.value, c.deref-in-Ok.ensures.value) at c.deliver.ensures in
-    host_rose (map string_bytes c.args.arguments.now) (host c.args.host.now) (host c.answer.new.host) (out c.args.out.now) (out c.deliver.new.out) (report c.args.report.now) (report c.deliver.new.report) _ c.deliver.result delivers c.in-Ok.ensures
+    host_rose (map string_bytes c.args.arguments.now) (host c.args.host.now) (host c.answer_command.new.host) (out c.args.out.now) (out c.deliver.new.out) (report c.args.report.now) (report c.deliver.new.report) _ c.deliver.result delivers c.in-Ok.ensures
 
 pub returns-in-Ok-clause-sink_write : goal.returns-in-Ok-clause-sink_write
 returns-in-Ok-clause-sink_write g c =
@@ -18,4 +18,4 @@ returns-in-Ok-clause-sink_write g c =
     let out = observed_sink g.O.Sink.told g.O.Sink.faults g.O.Sink.shortages in
     let report = observed_sink g.R.Sink.told g.R.Sink.faults g.R.Sink.shortages in
     let delivers = rw (c.deref.ensures.value, c.deref-in-Ok.ensures.value) at c.deliver.ensures in
-    sink_rose (map string_bytes c.args.arguments.now) (host c.args.host.now) (host c.answer.new.host) (out c.args.out.now) (out c.deliver.new.out) (report c.args.report.now) (report c.deliver.new.report) _ c.deliver.result delivers c.in-Ok.ensures
+    sink_rose (map string_bytes c.args.arguments.now) (host c.args.host.now) (host c.answer_command.new.host) (out c.args.out.now) (out c.deliver.new.out) (report c.args.report.now) (report c.deliver.new.report) _ c.deliver.result delivers c.in-Ok.ensures

@@ -24,7 +24,7 @@ returns-clause-serves c = λ own a caller.
     let o = c.in_ok-outcome.outcome in
     let gives = c.in_ok-outcome.ensures.gives (asked_by a caller) (made_by a k caller.entry caller.held call caller.runs caller.stands)
     (tree_in a k caller.entry caller.held call refl) (files_in a k caller.entry caller.held call refl) in
-    output_answers a k caller.entry caller.held call caller.runs caller.stands o c.answer_given.result c.answer_given.new.parts gives (c.answer_given.ensures.serves own a caller)
+    output_answers a k caller.entry caller.held call caller.runs caller.stands o c.answer_outcome.result c.answer_outcome.new.parts gives (c.answer_outcome.ensures.serves own a caller)
 
 pub returns-clause-memory : goal.returns-clause-memory
 returns-clause-memory c = λ headers a caller.
@@ -32,5 +32,5 @@ returns-clause-memory c = λ headers a caller.
     let call = c.args.call in
     let gives = c.in_ok-outcome.ensures.gives (asked_by a caller) (made_by a k caller.entry caller.held call caller.runs caller.stands)
     (tree_in a k caller.entry caller.held call refl) (files_in a k caller.entry caller.held call refl) in
-    subst (λ (r : Row). InReach c.args.reach headers a (answered_in (physical_of headers a k) (asked_by a caller) r) k c.answer_given.new.parts call.pid c.answer_given.result) (sym gives)
-    (c.answer_given.ensures.memory headers a caller)
+    subst (λ (r : Row). InReach c.args.reach headers a (answered_in (physical_of headers a k) (asked_by a caller) r) k c.answer_outcome.new.parts call.pid c.answer_outcome.result) (sym gives)
+    (c.answer_outcome.ensures.memory headers a caller)

@@ -7,7 +7,7 @@ use Rattle.fd_tables.specs.Files.{OpenFiles}
 use Rattle.machine_world.specs.Rows.{row}
 use Rattle.file_calls.specs.declared.call.Call.{Call}
 use Rattle.file_calls.specs.declared.outcome.Outcome.{Outcome}
-use Rattle.file_calls.specs.Calls.{IsOutput, written_of}
+use Rattle.file_calls.specs.Calls.{IsOutput, got_of}
 use Rattle.file_calls.specs.Outcomes.{GivesRow}
 use Rattle.call_bytes.specs.Puts.{IsRange}
 use Rattle.syscall_layer.proofs.OutputRanges.{ranges_of}
@@ -15,7 +15,7 @@ use Rattle.syscall_layer.proofs.answer.outcome_of.Goals as goal
 
 -- where there is one
 of_result : (call : Call) (tree : Inodes) (files : OpenFiles) (r : Result Outcome AllocError) → IsOutput call.number → slice_index call.args 2 < 2 ^ 32 → IfOk r (GivesRow row call tree files) →
-    IfOk r (λ o. All IsRange (written_of o))
+    IfOk r (λ o. All IsRange (got_of o))
 of_result call tree files (Ok o) output small rows = ranges_of call tree files o output small rows
 of_result call tree files (Err e) output small rows = rows
 

@@ -3,7 +3,7 @@ use Rattle.std.proofs.Common.{rules, ◌≡◌, arith, List, [], ◌∷◌, leng
 use Rattle.std.specs.Prelude.{map}
 use Rattle.std.proofs.lemmas.Result.{err_from_is_err_and}
 use Rattle.call_log.specs.Notes.{Note}
-use Rattle.call_log.specs.Values.{written_value}
+use Rattle.call_log.specs.Values.{got_value}
 use Rattle.file_calls.specs.Calls.{MadeBy}
 use Rattle.vfork_exec.specs.Procs.{Lives}
 use Rattle.machine_world.specs.Rows.{row}
@@ -69,7 +69,7 @@ invariant_of-self-2 c =
     let call = c.args.call in
     let few = room_counts k.notes (length call.sent.items) (room_inside k c.args.self.now c.self.view_is call.sent.items c.requires.room) in
     let made : MadeBy call (plain_ask k call) = record { pid = refl; parent = refl; table = refl; number = refl; args = refl; sent = refl } in
-    let noted = c.finish.ensures.notes ∙ ap (λ (ns : List Note). noted_call call c.in_ok-value.value (map written_value c.new-got.result.items) ∷ ns) (c.or_unreserve.ensures.notes ∙ c.reserve.ensures.same) in
+    let noted = c.finish.ensures.notes ∙ ap (λ (ns : List Note). noted_call call c.in_ok-value.value (map got_value c.new-got.result.items) ∷ ns) (c.or_unreserve.ensures.notes ∙ c.reserve.ensures.same) in
     let counted = counts call c.in_ok-value.value _ k.notes _ noted in (
       (
         regular_finished k call.pid c.self.invariant.0.0 lives c.in_ok-value.value k.mem c.change-changed.new.tree c.change-changed.new.files.open_files c.finish.new.procs c.finish.new.log.notes c.change-changed.new.console.items c.pass.new.self
@@ -86,7 +86,7 @@ returns-clause-changes c = λ a.
     let k = kept_of c.self.inside in
     let call = c.args.call in
     let noted = c.finish.ensures.notes
-    ∙ (λ i. noted_call call c.in_ok-value.value (map written_value (c.new-got.ensures.items i)) ∷ (c.or_unreserve.ensures.notes ∙ c.reserve.ensures.same) i) in
+    ∙ (λ i. noted_call call c.in_ok-value.value (map got_value (c.new-got.ensures.items i)) ∷ (c.or_unreserve.ensures.notes ∙ c.reserve.ensures.same) i) in
     subst (λ (old : Kept). (caller : Caller old call) → Changed a old caller.entry caller.held call (row (asked_by a caller)) (new_parts c)) c.self.view_is
     (λ caller. changed_by a k caller.entry caller.held call caller.runs caller.stands c.change-changed.new.tree c.change-changed.new.files.open_files c.change-changed.new.console.items c.in_ok-value.value c.finish.new.procs c.finish.new.log.notes c.pass.new.self
     (rw (← c.in_ok-value.ensures.same) at (c.change-changed.ensures.changes (asked_by a caller) (made_by a k caller.entry caller.held call caller.runs caller.stands) (is_rest a k caller.entry caller.held call caller.runs caller.stands c.self.inside.files refl)))

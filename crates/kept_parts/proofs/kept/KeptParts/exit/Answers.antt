@@ -2,7 +2,7 @@
 use Rattle.std.proofs.Common.{◌≡◌, List, ◌∷◌, sym, ap, subst, ◌∙◌}
 use Rattle.std.specs.Prelude.{map}
 use Rattle.call_log.specs.Notes.{Note, end_note}
-use Rattle.call_log.specs.Values.{written_value}
+use Rattle.call_log.specs.Values.{got_value}
 use Rattle.vfork_exec.specs.Procs.{CanRun}
 use Rattle.kept_parts.specs.Kept.{Kept}
 use Rattle.kept_parts.specs.Inside.{kept_of}
@@ -26,7 +26,7 @@ returns-clause-exits c = λ e h.
     let k = kept_of c.self.inside in
     let call = c.args.call in
     let noted = c.keep-2.ensures.notes ∙ ap (λ (ns : List Note). end_note call.pid (exit_of call) ∷ ns) (c.keep.ensures.notes
-    ∙ (λ i. noted_call call 0 (map written_value (c.new-got.ensures.items i)) ∷ c.reserve.ensures.same i)) in
+    ∙ (λ i. noted_call call 0 (map got_value (c.new-got.ensures.items i)) ∷ c.reserve.ensures.same i)) in
     subst (λ (old : Kept). LivesIn old call.pid e h → c.depart.new.self ≡ after_exit old e h call) c.self.view_is
     (λ runs. exit_done k call e h c.depart.new.self c.keep-2.new.log.notes c.pass.new.self noted
     (c.pass.ensures ∙ ap (λ (t : Task). event_recorded k.recording t.space) (value_found k.procs call.pid e runs.lives c.get.result.now c.get.ensures)) (c.depart.ensures.goes e h (record { lives = runs.lives; home = runs.home })))

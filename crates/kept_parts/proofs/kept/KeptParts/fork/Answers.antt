@@ -2,7 +2,7 @@
 use Rattle.std.proofs.Common.{rules, ◌≡◌, ◌<◌, List, ◌∷◌, length, map, sym, ap, subst, ◌∙◌}
 use Rattle.std.specs.Prelude.{Some}
 use Rattle.call_log.specs.Notes.{Note}
-use Rattle.call_log.specs.Values.{written_value}
+use Rattle.call_log.specs.Values.{got_value}
 use Rattle.vfork_exec.specs.declared.entry.Entry.{Entry}
 use Rattle.fd_tables.specs.Changes.{with_copy}
 use Rattle.vfork_exec.specs.Procs.{Listed, CanRun, process, count, most_entries}
@@ -50,7 +50,7 @@ invariant_of-self-in-Ok c =
     let ready = subst (λ (s : Kept). CanRun s.procs call.pid) (sym c.self.view_is) c.requires.ready in
     let few = subst (λ (s : Kept). count s.procs < most_entries) (sym c.self.view_is) c.requires.few in
     let r = runs_in k call.pid c.self.invariant.0.0 (can_run_lives k.procs call.pid ready) in
-    let noted = c.finish.ensures.notes ∙ ap (λ (ns : List Note). noted_call call c.in-Ok.pid (map written_value c.new-got.result.items) ∷ ns) (c.or_unreserve.ensures.notes ∙ c.reserve.ensures.same) in
+    let noted = c.finish.ensures.notes ∙ ap (λ (ns : List Note). noted_call call c.in-Ok.pid (map got_value c.new-got.result.items) ∷ ns) (c.or_unreserve.ensures.notes ∙ c.reserve.ensures.same) in
     let counted = counts call c.in-Ok.pid _ k.notes c.finish.new.log.notes noted in (
       (
         subst (λ (s : Listed Task). Regular (record k { procs = s; files = c.copy_table-copied.new.self.open_files; notes = c.finish.new.log.notes; recording = c.pass.new.self })) (sym (procs_are c r.0 r.1.1.lives))
@@ -66,7 +66,7 @@ returns-clause-forks c = λ e h.
     let k = kept_of c.self.inside in
     let call = c.args.call in
     let noted = c.finish.ensures.notes
-    ∙ (λ i. noted_call call (c.in-Ok.ensures.1 i) (map written_value (c.new-got.ensures.items i)) ∷ (c.or_unreserve.ensures.notes ∙ c.reserve.ensures.same) i) in
+    ∙ (λ i. noted_call call (c.in-Ok.ensures.1 i) (map got_value (c.new-got.ensures.items i)) ∷ (c.or_unreserve.ensures.notes ∙ c.reserve.ensures.same) i) in
     subst (λ (old : Kept). LivesIn old call.pid e h →
     record k { procs = c.finish.new.procs; files = c.copy_table-copied.new.self.open_files; notes = c.finish.new.log.notes; recording = c.pass.new.self } ≡ after_fork old e call) c.self.view_is
     (λ runs. λ i. record k {

@@ -5,14 +5,14 @@ use Rattle.std.specs.Vec.{with_items}
 use Rattle.std.proofs.lemmas.Result.{err_from_is_err_and}
 use Rattle.page_runs.specs.declared.place.Kind.{Kind}
 use Rattle.page_runs.specs.Choosers.{kind_of}
-use Rattle.call_log.specs.Values.{written_value}
+use Rattle.call_log.specs.Values.{got_value}
 use Rattle.mem_files.specs.Inodes.{bytes_of}
 use Rattle.mmap_rules.specs.Held.{Held}
-use Rattle.mmap_rules.specs.Sides.{sides, file_in}
+use Rattle.mmap_rules.specs.MapState.{map_state, file_in}
 use Rattle.region_watch.specs.Private.{physical}
 use Rattle.vfork_exec.specs.declared.entry.Entry.{Entry}
 use Rattle.vfork_exec.specs.Procs.{Lives}
-use Rattle.machine_world.specs.MapCalls.{first_bytes, mapped}
+use Rattle.machine_world.specs.MapCalls.{mapped}
 use Rattle.machine_world.specs.Event.{answered}
 use Rattle.physical_turns.specs.Physical.{Physical, after, carried}
 use Rattle.kept_parts.specs.declared.task.Task.{Task}
@@ -23,7 +23,7 @@ use Rattle.kept_parts.specs.Regular.{IsRegular}
 use Rattle.kept_parts.specs.Copies.{StillHolds}
 use Rattle.kept_parts.specs.Stands.{later, world_of}
 use Rattle.kept_parts.specs.InMemory.{physical_of}
-use Rattle.mmap_rules.specs.Copies.{IsKnown}
+use Rattle.mmap_rules.specs.Copies.{IsKnown, wanted_bytes}
 use Rattle.kept_parts.specs.Calls.{LivesIn, RoomFor, noted_call, Changed, Caller, asked_by}
 use Rattle.kept_parts.specs.MapsIn.{MapsIn}
 use Rattle.kept_parts.specs.Recorded.{room_beside}
@@ -57,7 +57,7 @@ map_in-mapped-requires-clause-few g c =
 
 recorded_none : (g : Over) (c : goal.After-drop-call-in_err-value g) → c.settle_brought.new.recording ≡ c.self.inside.recording
 recorded_none g c =
-    brought_none c.self.inside.recording c.bring-bringing.new.recording c.settle_brought.new.recording c.in_ok-brings.brings (first_bytes c.self.inside.tree c.args.want) c.map_in-mapped.result c.in_err-value.field-0.0
+    brought_none c.self.inside.recording c.bring-bringing.new.recording c.settle_brought.new.recording c.in_ok-brings.brings (wanted_bytes c.self.inside.tree c.args.want) c.map_in-mapped.result c.in_err-value.field-0.0
     (rw (← c.in_ok-brings.ensures.same) at c.bring-bringing.ensures.brings) c.settle_brought.ensures (rw (← c.in_err-value.ensures.same) at c.address.ensures)
 
 stays : (g : Over) (c : goal.After-drop-call-in_err-value g) → kept_of c.self.inside
@@ -142,7 +142,7 @@ left g c kind same h there =
     })
 
 noted : (g : Over) (c : goal.After-finish g) → c.finish.new.log.notes ≡ noted_call c.args.call c.in_ok-value.value [] ∷ c.self.inside.log.notes
-noted g c = c.finish.ensures.notes ∙ (λ i. noted_call c.args.call c.in_ok-value.value (map written_value (c.new-got.ensures.items i)) ∷ (c.or_unreserve-2.ensures.notes ∙ c.or_unreserve.ensures.notes ∙ c.reserve.ensures.same) i)
+noted g c = c.finish.ensures.notes ∙ (λ i. noted_call c.args.call c.in_ok-value.value (map got_value (c.new-got.ensures.items i)) ∷ (c.or_unreserve-2.ensures.notes ∙ c.or_unreserve.ensures.notes ∙ c.reserve.ensures.same) i)
 
 pub invariant_of-self-2 : goal.invariant_of-self-2
 invariant_of-self-2 g c =
@@ -174,7 +174,7 @@ brought g c kind e h runs =
     let now = rw (← c.in_ok-brings.ensures.same) at c.bring-bringing.ensures.brings in
     subst (λ (t : Task). Brought k t.space kind want h c.map_in-mapped.result c.pass.new.self) task
     (brought_by k c.get.result.now.space kind want h c.map_in-mapped.result c.bring-bringing.new.recording c.settle_brought.new.recording c.pass.new.self c.in_ok-brings.brings
-    (done (sides h k.regions k.mem) kind (bytes_of k.tree (file_in want)) refl) now c.settle_brought.ensures c.pass.ensures)
+    (done (map_state h k.regions k.mem) kind (bytes_of k.tree (file_in want)) refl) now c.settle_brought.ensures c.pass.ensures)
 
 -- the same by the entry of the process
 left_at : (g : Over) (c : goal.After-finish g) (kind : Kind) → kind ≡ kind_of c.args.chooser.now → (e : Entry Task) (h : Held) → LivesIn (kept_of c.self.inside) c.args.call.pid e h →

@@ -3,7 +3,7 @@ use Rattle.std.proofs.Common.{rules, ◌≡◌, arith, List, Option, ◌∷◌, 
 use Rattle.std.specs.Prelude.{ℕ, map, slice_get, slice_set, Some}
 use Rattle.std.specs.Vec.{with_items}
 use Rattle.call_log.specs.Notes.{Note}
-use Rattle.call_log.specs.Values.{written_value}
+use Rattle.call_log.specs.Values.{got_value}
 use Rattle.mmap_rules.specs.Held.{Held, next_brk}
 use Rattle.vfork_exec.specs.Procs.{Lives}
 use Rattle.kept_parts.specs.declared.task.Task.{Task}
@@ -47,7 +47,7 @@ pub invariant_of-self-2 : goal.invariant_of-self-2
 invariant_of-self-2 c =
     let k = kept_of c.self.inside in
     let lives = subst (λ (s : Kept). Lives s.procs c.args.call.pid) (sym c.self.view_is) c.requires.lives in
-    let noted = c.finish.ensures.notes ∙ ap (λ (ns : List Note). noted_call c.args.call c.settle-value.result (map written_value c.new-got.result.items) ∷ ns) c.reserve.ensures.same in
+    let noted = c.finish.ensures.notes ∙ ap (λ (ns : List Note). noted_call c.args.call c.settle-value.result (map got_value c.new-got.result.items) ∷ ns) c.reserve.ensures.same in
     let counted = counts c.args.call c.settle-value.result _ k.notes _ noted in (
       (
         regular_settled k c.args.call.pid c.self.invariant.0.0 lives c.get.result.now c.get.ensures c.settle-value.result (λ h. brk_of (next_brk h) h.brk c.args.effect)
@@ -63,7 +63,7 @@ returns-clause-replies c = λ a e h.
     let k = kept_of c.self.inside in
     let call = c.args.call in
     let noted = c.finish.ensures.notes
-    ∙ (λ i. noted_call call c.settle-value.result (map written_value (c.new-got.ensures.items i)) ∷ c.reserve.ensures.same i) in
+    ∙ (λ i. noted_call call c.settle-value.result (map got_value (c.new-got.ensures.items i)) ∷ c.reserve.ensures.same i) in
     subst (λ (old : Kept). LivesIn old call.pid e h → RepliesBy a old e h call c.args.effect (new_parts c) (Ok tt)) c.self.view_is
     (λ runs.
     let same : c.get.result.now ≡ e.value = value_found k.procs call.pid e runs.lives c.get.result.now c.get.ensures in

@@ -2,7 +2,7 @@
 use Rattle.std.proofs.Common.{rules, ◌≡◌, List, [], Option, ◌∷◌, refl, sym, ap, subst, arith, ◌∙◌}
 use Rattle.std.specs.Prelude.{◌==◌, Some, map, slice_get, slice_set, slice_index}
 use Rattle.std.specs.Vec.{with_items}
-use Rattle.call_log.specs.Values.{written_value}
+use Rattle.call_log.specs.Values.{got_value}
 use Rattle.mmap_rules.specs.Held.{Held}
 use Rattle.mmap_rules.specs.Mappings.{hit}
 use Rattle.vfork_exec.specs.Procs.{Lives}
@@ -61,7 +61,7 @@ left c h there =
     }
 
 noted : (c : goal.After-finish) → c.finish.new.log.notes ≡ noted_call c.args.call c.status-value.result [] ∷ c.self.inside.log.notes
-noted c = c.finish.ensures.notes ∙ (λ i. noted_call c.args.call c.status-value.result (map written_value (c.new-got.ensures.items i)) ∷ c.reserve.ensures.same i)
+noted c = c.finish.ensures.notes ∙ (λ i. noted_call c.args.call c.status-value.result (map got_value (c.new-got.ensures.items i)) ∷ c.reserve.ensures.same i)
 
 pub invariant_of-self-2 : goal.invariant_of-self-2
 invariant_of-self-2 c =

@@ -4,7 +4,7 @@ use Rattle.page_runs.specs.declared.place.Kind.TheVariants.{First}
 use Rattle.nommu_regions.specs.declared.region.Region.{Region}
 use Rattle.nommu_regions.specs.Ids.{Numbered, start_of}
 use Rattle.mmap_rules.specs.Held.{Held, page_address}
-use Rattle.mmap_rules.specs.Sides.{NameRegions}
+use Rattle.mmap_rules.specs.MapState.{NameRegions}
 use Rattle.mmap_rules.proofs.Mapped.{places_at_least}
 use Rattle.mmap_rules.proofs.Fresh.{fits_inside}
 use Rattle.mmap_rules.proofs.FreshRuns.{run_can}

@@ -4,7 +4,7 @@ use Rattle.nommu_regions.specs.declared.region.Region.{Region}
 use Rattle.nommu_regions.specs.Ids.{start_of}
 use Rattle.mmap_rules.specs.Held.{Held}
 use Rattle.mmap_rules.specs.Mappings.{part_mapping, copied_from}
-use Rattle.mmap_rules.specs.Sides.{NameRegions}
+use Rattle.mmap_rules.specs.MapState.{NameRegions}
 use Rattle.mmap_rules.proofs.Mapped.{places_at_least}
 use Rattle.mmap_rules.proofs.Copies.{part_can}
 use Rattle.mmap_rules.proofs.space.Space.map_part.Goals as goal

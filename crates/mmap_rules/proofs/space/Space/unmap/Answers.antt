@@ -1,7 +1,7 @@
 use Rattle.std.proofs.Common.{◌*◌, length, subst, sym, arith}
 use Rattle.mmap_rules.specs.Held.{Held}
 use Rattle.mmap_rules.specs.Mappings.{is_range, can_lose}
-use Rattle.mmap_rules.specs.Sides.{NameRegions}
+use Rattle.mmap_rules.specs.MapState.{NameRegions}
 use Rattle.mmap_rules.proofs.Cuts.{cuts, stand}
 use Rattle.mmap_rules.proofs.Hits.{unmapped_len, unmapped_page, nothing_hit, all_unmaps, cut_unmaps, refuses, none_passes, first_passes, some_pages, none_hit, all_hit, cut_hit, dropped, cut_at}
 use Rattle.mmap_rules.proofs.NamesLess.{lives, can_cut, names_less}

@@ -2,7 +2,7 @@ use Rattle.std.proofs.Common.{◌∙◌, ◌≡◌, ℕ, ◌-◌, ◌≤◌, tru
 use Rattle.std.specs.List.Sorted.{IsNonDecreasingBy, IsPartitionPoint}
 use Rattle.std.proofs.lemmas.List.Sorted.{IsPartitionPoint-from_clause, IsPartitionedBy-ltb}
 use Rattle.std.proofs.lemmas.Bool.{ltb-false}
-use Rattle.psabi_relocs.specs.Noted.{noted, head_at, IsAround}
+use Rattle.psabi_relocs.specs.Firsts.{first_at, head_at, IsAround}
 use Rattle.psabi_relocs.proofs.FirstNotes.{between, search_near, ascend_between}
 use Rattle.psabi_relocs.proofs.firsts.Firsts.get.Goals as goal
 
@@ -25,4 +25,4 @@ returns g c =
     let searched = search_near notes i j q ascend around below few
     (λ k d h in_list. ltb-true _ _ (point.0 k d (omega arith) h)) (λ k d h in_list. ltb-false _ _ (point.1 k d h in_list)) in
     c.head_at.ensures ∙ ap (λ ns. head_at ns q) (c.split_at-3.ensures.back ∙ ap (drop below) c.split_at.ensures.back) ∙ searched
-    ∙ ap (λ ns. noted ns q) same
+    ∙ ap (λ ns. first_at ns q) same

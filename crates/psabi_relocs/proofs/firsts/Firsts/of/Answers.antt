@@ -1,6 +1,6 @@
 use Rattle.std.proofs.Common.{refl, rules}
 use Rattle.std.proofs.lemmas.List.Sorted.{IsNonDecreasingBy-from_sort_by_key, answers_always}
-use Rattle.psabi_relocs.proofs.FirstNotes.{noted_stable, ascend_where}
+use Rattle.psabi_relocs.proofs.FirstNotes.{first_stable, ascend_where}
 use Rattle.psabi_relocs.proofs.firsts.Firsts.of.Goals as goal
 use Rattle.psabi_relocs.proofs.firsts.Firsts.of.Goals.{then-not-is_sorted_by_key+in_ok-sort_by_key, else-not-is_sorted_by_key}
 
@@ -14,6 +14,6 @@ invariant_of-result g c = elim c.if-not-is_sorted_by_key.branch [
 pub returns : goal.returns
 returns g c = λ q. elim c.if-not-is_sorted_by_key.branch [
   | then-not-is_sorted_by_key+in_ok-sort_by_key w ↦
-      rw w.notes-is (noted_stable _ _ (w.in_ok-sort_by_key.ensures.stable (λ n. n.0) (answers_always _ _ _ (λ f a r g h. search rules))) q)
+      rw w.notes-is (first_stable _ _ (w.in_ok-sort_by_key.ensures.stable (λ n. n.0) (answers_always _ _ _ (λ f a r g h. search rules))) q)
   | else-not-is_sorted_by_key w ↦ rw w.notes-is refl
 ]

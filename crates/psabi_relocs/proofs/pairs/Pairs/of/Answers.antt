@@ -4,7 +4,7 @@ use Rattle.elf32_reader.specs.Relas.{rela_count}
 use Rattle.elf32_reader.proofs.Places.{is_kept_below, is_kept_info}
 use Rattle.psabi_relocs.specs.Reloc.{reloc, target_section}
 use Rattle.psabi_relocs.specs.Pair.{is_high_at, names}
-use Rattle.psabi_relocs.specs.Noted.{noted, high_part}
+use Rattle.psabi_relocs.specs.Firsts.{first_at, high_part}
 use Rattle.psabi_relocs.proofs.IndexSearches.{first_below_zero}
 use Rattle.psabi_relocs.proofs.IndexEntries.{HasEntries, sum_below_zero, one_more, all_entries}
 use Rattle.psabi_relocs.proofs.GroupCounts.{can_step}
@@ -18,8 +18,8 @@ section-target-requires c = rw c.section.ensures (is_kept_info _ _ c.requires.ke
 
 pub loop-entry-init : goal.loop-entry-init
 loop-entry-init c = record {
-  high = λ q. ap (λ ns. noted ns q) c.new.ensures.items ∙ sym (ap (option_map (λ k. high_part (reloc c.args.elf.now c.args.section k))) (first_below_zero (λ k. is_high_at q (reloc c.args.elf.now c.args.section k))));
-  low = λ q. ap (λ ns. noted ns q) c.new-2.ensures.items ∙ sym (first_below_zero (λ k. names (target_section c.args.elf.now c.args.section) q (reloc c.args.elf.now c.args.section k)));
+  high = λ q. ap (λ ns. first_at ns q) c.new.ensures.items ∙ sym (ap (option_map (λ k. high_part (reloc c.args.elf.now c.args.section k))) (first_below_zero (λ k. is_high_at q (reloc c.args.elf.now c.args.section k))));
+  low = λ q. ap (λ ns. first_at ns q) c.new-2.ensures.items ∙ sym (first_below_zero (λ k. names (target_section c.args.elf.now c.args.section) q (reloc c.args.elf.now c.args.section k)));
   sums = λ q width. rw c.new-3.ensures.empty (sum_below_zero _ _ q width);
 }
 
@@ -36,11 +36,11 @@ note_entry-requires c =
 pub loop-entry-preserved : goal.loop-entry-preserved
 loop-entry-preserved c =
     let step = rw (c.section-target.ensures, c.section.ensures) at c.in_ok-note_entry.ensures in
-    one_more c.args.elf.now c.args.section c.loop-entry.entry c.loop-entry.noted c.note_entry.new.self c.loop-entry.invariant (
+    one_more c.args.elf.now c.args.section c.loop-entry.entry c.loop-entry.gathered c.note_entry.new.self c.loop-entry.invariant (
     record { high = step.high; low = step.low; sums = step.sums })
 
 pub returns : goal.returns
 returns c =
     let all : c.loop-entry.entry ≡ rela_count c.args.elf.now c.args.section = omega (arith, c.relas-entry-end.ensures.count) in
-    let entries = subst (λ n. HasEntries c.args.elf.now c.args.section n c.loop-entry.noted) all c.loop-entry.invariant in
-    all_entries c.args.elf.now c.args.section c.loop-entry.noted _ entries c.in_ok-of.ensures c.in_ok-of-2.ensures refl
+    let entries = subst (λ n. HasEntries c.args.elf.now c.args.section n c.loop-entry.gathered) all c.loop-entry.invariant in
+    all_entries c.args.elf.now c.args.section c.loop-entry.gathered _ entries c.in_ok-of.ensures c.in_ok-of-2.ensures refl

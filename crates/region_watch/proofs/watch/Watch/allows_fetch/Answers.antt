@@ -1,7 +1,7 @@
 -- A fetch inside the window is own, and passes.
 use Rattle.std.proofs.Common.{◌<◌, sym, arith}
 use Rattle.region_watch.proofs.Accesses.{in_window, range_passes}
-use Rattle.region_watch.proofs.Notes.{noted_own}
+use Rattle.region_watch.proofs.Notes.{stray_after_own}
 use Rattle.region_watch.proofs.watch.Watch.allows_fetch.Goals as goal
 
 pub returns-then-access-self-clause-answer : goal.returns-then-access-self-clause-answer
@@ -12,4 +12,4 @@ returns-then-access-self-clause-answer c =
 pub returns-then-access-self-clause-first : goal.returns-then-access-self-clause-first
 returns-then-access-self-clause-first c =
     let some : 0 < c.args.self.now.reach = omega (arith, c.if-access-self.true) in
-    noted_own _ _ _ (in_window _ _ c.args.self.now.from c.args.self.now.reach _ _ (c.args.self.now.window some) (omega arith) (omega arith) c.if-access-self.true c.requires)
+    stray_after_own _ _ _ (in_window _ _ c.args.self.now.from c.args.self.now.reach _ _ (c.args.self.now.window some) (omega arith) (omega arith) c.if-access-self.true c.requires)

@@ -1,5 +1,5 @@
 use Rattle.std.proofs.Common.{map}
-use Rattle.call_log.specs.Values.{written_value}
+use Rattle.call_log.specs.Values.{got_value}
 use Rattle.replay_check.proofs.OwnBytes.{paged}
 use Rattle.replay_check.proofs.Output.{put_leaves, stray_leaves, fits_memory}
 use Rattle.replay_check.proofs.memory.LoneMemory.put.Goals as goal
@@ -7,17 +7,17 @@ use Rattle.replay_check.proofs.memory.LoneMemory.put.Goals as goal
 pub returns-then-not-may_put : goal.returns-then-not-may_put
 returns-then-not-may_put c =
     let s = c.self.inside in
-    rw (← c.self.view_is) (stray_leaves s.ranges.items s.owners s.mem c.self.invariant (map written_value c.args.got.now) c.if-not-may_put.ensures (record { ranges = s.ranges.items; mem = s.mem }))
+    rw (← c.self.view_is) (stray_leaves s.ranges.items s.owners s.mem c.self.invariant (map got_value c.args.got.now) c.if-not-may_put.ensures (record { ranges = s.ranges.items; mem = s.mem }))
 
 pub put-requires-clause-inside : goal.put-requires-clause-inside
 put-requires-clause-inside c =
     let s = c.self.inside in
     let fits = c.if-not-may_put.ensures in
-    (16384, c.self.invariant.memory, fits_memory s.owners c.self.invariant.pages (map written_value c.args.got.now) fits.0)
+    (16384, c.self.invariant.memory, fits_memory s.owners c.self.invariant.pages (map got_value c.args.got.now) fits.0)
 
 pub returns : goal.returns
 returns c =
     let s = c.self.inside in
     let fits = c.if-not-may_put.ensures in
-    rw (← c.self.view_is) (put_leaves s.ranges.items s.owners s.mem c.put.new.mem c.self.invariant (map written_value c.args.got.now)
+    rw (← c.self.view_is) (put_leaves s.ranges.items s.owners s.mem c.put.new.mem c.self.invariant (map got_value c.args.got.now)
     (c.put.ensures.own s.owners (paged s.ranges.items s.owners s.mem c.self.invariant) fits.0))

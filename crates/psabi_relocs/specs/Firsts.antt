@@ -7,9 +7,9 @@ use Rattle.psabi_relocs.specs.Row.{is_got_hi20}
 use Rattle.psabi_relocs.specs.Field.{own_ends, relative}
 
 -- what was noted first at the address q; each note has an address, and what it says
-abbrev pub noted : {X : Type 0} → List (ℕ × X) → ℕ → Option X
-noted [] q = None
-noted (n ∷ ns) q = if n.0 == q then Some n.1 else noted ns q
+abbrev pub first_at : {X : Type 0} → List (ℕ × X) → ℕ → Option X
+first_at [] q = None
+first_at (n ∷ ns) q = if n.0 == q then Some n.1 else first_at ns q
 
 -- what the first note says, if it is at the address q
 abbrev pub head_at : {X : Type 0} → List (ℕ × X) → ℕ → Option X

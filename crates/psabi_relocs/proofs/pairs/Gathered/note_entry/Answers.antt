@@ -8,9 +8,9 @@ use Rattle.psabi_relocs.specs.declared.row.Row.{Row}
 use Rattle.psabi_relocs.specs.Row.{row_of, is_joined}
 use Rattle.psabi_relocs.specs.Reloc.{reloc}
 use Rattle.psabi_relocs.specs.Sums.{sums_or_none, sum_of}
-use Rattle.psabi_relocs.specs.Noted.{noted, high_part}
+use Rattle.psabi_relocs.specs.Firsts.{first_at, high_part}
 use Rattle.psabi_relocs.proofs.IndexEntries.{unpaired_high, unpaired_low, ungrouped}
-use Rattle.psabi_relocs.proofs.pairs.Noted.note_entry.Goals as goal
+use Rattle.psabi_relocs.proofs.pairs.Gathered.note_entry.Goals as goal
 
 -- the row by which the code decides is the entry's
 row_alone : (e : List ℕ) (i j : ℕ) (found : Rela) (row : Row) → found ≡ rela e i j → row ≡ row_of found.kind → is_joined row ≡ false → is_joined (reloc e i j).row ≡ false
@@ -21,13 +21,13 @@ pub returns-then-not-is_joined-clause-high : goal.returns-then-not-is_joined-cla
 returns-then-not-is_joined-clause-high c =
     let e = c.args.elf.now in
     let alone = row_alone e c.args.section c.args.entry c.rela.result c.of.result c.rela.ensures.value c.of.ensures (sym c.is_joined.ensures ∙ c.if-not-is_joined.true) in
-    λ q. unpaired_high (reloc e c.args.section c.args.entry) alone q (high_part (reloc e c.args.section c.args.entry)) (noted c.args.self.now.high.items q)
+    λ q. unpaired_high (reloc e c.args.section c.args.entry) alone q (high_part (reloc e c.args.section c.args.entry)) (first_at c.args.self.now.high.items q)
 
 pub returns-then-not-is_joined-clause-low : goal.returns-then-not-is_joined-clause-low
 returns-then-not-is_joined-clause-low c =
     let e = c.args.elf.now in
     let alone = row_alone e c.args.section c.args.entry c.rela.result c.of.result c.rela.ensures.value c.of.ensures (sym c.is_joined.ensures ∙ c.if-not-is_joined.true) in
-    λ q. unpaired_low (reloc e c.args.section c.args.entry) alone c.args.target.now q c.args.entry (noted c.args.self.now.low.items q)
+    λ q. unpaired_low (reloc e c.args.section c.args.entry) alone c.args.target.now q c.args.entry (first_at c.args.self.now.low.items q)
 
 pub returns-then-not-is_joined-clause-sums : goal.returns-then-not-is_joined-clause-sums
 returns-then-not-is_joined-clause-sums c =

@@ -5,7 +5,7 @@ use Rattle.file_commands.specs.Texts.{usage_line}
 use Rattle.file_commands.proofs.Lines.{ends_with_line}
 use Rattle.file_commands.proofs.Ranges.{HasRanges, read_in_ranges}
 use Rattle.suite_top.proofs.Usage.{ends_with_usage, performs_demo}
-use Rattle.suite_top.proofs.top.answer.Goals as goal
+use Rattle.suite_top.proofs.top.answer_command.Goals as goal
 
 pub convert_file-requires-clause-some_stack : goal.convert_file-requires-clause-some_stack
 convert_file-requires-clause-some_stack g c =

@@ -2,7 +2,7 @@
 use Rattle.std.proofs.Common.{arith}
 use Rattle.std.proofs.Math.Facts.{Fits-of_lt}
 use Rattle.call_bytes.proofs.Puts.{range_at}
-use Rattle.call_bytes.proofs.output.stray_put.Goals as goal
+use Rattle.call_bytes.proofs.output.stray_got.Goals as goal
 
 pub overflow_cast-len : goal.overflow_cast-len
 overflow_cast-len c =

@@ -7,7 +7,7 @@ use Rattle.nommu_regions.specs.declared.region.Region.{Region}
 use Rattle.nommu_regions.specs.declared.region.Source.{Source}
 use Rattle.nommu_regions.specs.declared.region.Source.TheVariants.{Own, Copy}
 use Rattle.nommu_regions.specs.Regions.{free_of, copy_of, with_uses, with_cut}
-use Rattle.nommu_regions.specs.Ids.{Numbered, start_of, OthersStay}
+use Rattle.nommu_regions.specs.Ids.{Numbered, start_of, OthersRemain}
 use Rattle.call_log.specs.declared.errno.Errno.{Errno}
 use Rattle.call_log.specs.declared.errno.Errno.TheVariants.{Einval}
 use Rattle.mmap_rules.specs.declared.mapping.Mapping.{Mapping}
@@ -20,34 +20,34 @@ use Rattle.mmap_rules.specs.Held.{Held, page_address}
 use Rattle.mmap_rules.specs.Want.{pages_for}
 use Rattle.mmap_rules.specs.Mappings.{run_mapping, part_mapping, copied_from, file_pages, page_at, Hit, hit, without_hit}
 
-pub record Sides : Type 0 where
+pub record MapState : Type 0 where
   pub held : Held
   pub regions : List Region
   pub memory : List ℕ
 
-abbrev pub sides : Held → List Region → List ℕ → Sides
-sides held regions memory = record { held = held; regions = regions; memory = memory }
+abbrev pub map_state : Held → List Region → List ℕ → MapState
+map_state held regions memory = record { held = held; regions = regions; memory = memory }
 
 -- ---- mmap2
 
 -- the address that is answered, and what is left
 pub record Mapped : Type 0 where
   pub addr : ℕ
-  pub sides : Sides
+  pub map_state : MapState
 
 -- a mapping more, the newest
 abbrev pub with_mapping : Held → Mapping → Held
 with_mapping held m = record held { maps = held.maps ++ m ∷ [] }
 
 -- the pages of a run of its own, with these bytes
-abbrev pub in_fresh_run : Sides → Kind → (pages : ℕ) → (writes anonymous : Bool) → Source → List ℕ → Option Mapped
+abbrev pub in_fresh_run : MapState → Kind → (pages : ℕ) → (writes anonymous : Bool) → Source → List ℕ → Option Mapped
 in_fresh_run s kind pages writes anonymous source bytes = at_run (first_of (free_of s.regions).runs (place kind (free_of s.regions).runs pages))
   where
     at_run : Option ℕ → Option Mapped
     at_run None = None
     at_run (Some first) = Some (record {
       addr = page_address first;
-      sides = record {
+      map_state = record {
         held = with_mapping s.held (run_mapping first pages writes anonymous source);
         regions = slice_set s.regions first (record { first = first; pages = pages; source = source; uses = 1 });
         memory = laid s.memory (page_size * first) bytes;
@@ -55,11 +55,11 @@ in_fresh_run s kind pages writes anonymous source bytes = at_run (first_of (free
     })
 
 -- pages of a copy that is there, which gets one use more
-abbrev pub in_copy : Sides → (first pages : ℕ) → Option Region → Option Mapped
+abbrev pub in_copy : MapState → (first pages : ℕ) → Option Region → Option Mapped
 in_copy s first pages None = None
 in_copy s first pages (Some r) = Some (record {
   addr = page_address (r.first + (first - copied_from r.source));
-  sides = record {
+  map_state = record {
     held = with_mapping s.held (part_mapping r.first r.pages r.source (first - copied_from r.source) pages);
     regions = with_uses s.regions r.first (λ uses. uses + 1);
     memory = s.memory;
@@ -67,13 +67,13 @@ in_copy s first pages (Some r) = Some (record {
 })
 
 -- a file that isn't written: the lowest copy that covers the pages, or a copy that is made
-abbrev pub in_copy_or_new : Sides → Kind → List ℕ → (pages first id change : ℕ) → Option ℕ → Option Mapped
+abbrev pub in_copy_or_new : MapState → Kind → List ℕ → (pages first id change : ℕ) → Option ℕ → Option Mapped
 in_copy_or_new s kind bytes pages first id change (Some copy) = in_copy s first pages (slice_get s.regions copy)
 in_copy_or_new s kind bytes pages first id change None =
     in_fresh_run s kind pages false false (Copy id change first) (file_pages bytes first pages)
 
 -- none where a fresh run is needed and none fits
-unfoldable pub mapped : Sides → Kind → (bytes : List ℕ) → Want → Option Mapped
+unfoldable pub mapped : MapState → Kind → (bytes : List ℕ) → Want → Option Mapped
 mapped s kind bytes (Anon pages) = in_fresh_run s kind pages true true Own (replicate (page_size * pages) 0)
 mapped s kind bytes (File pages first true id change) = in_fresh_run s kind pages true false Own (file_pages bytes first pages)
 mapped s kind bytes (File pages first false id change) =
@@ -85,8 +85,8 @@ file_in (Anon pages) = 0
 file_in (File pages first write id change) = id
 
 -- what `map` answers; out of memory changes nothing
-abbrev pub Maps : Option Mapped → (old new : Sides) → Result ℕ MapFault → Type 0
-Maps (Some m) old new (Ok addr) = (addr ≡ m.addr) × (new ≡ m.sides)
+abbrev pub Maps : Option Mapped → (old new : MapState) → Result ℕ MapFault → Type 0
+Maps (Some m) old new (Ok addr) = (addr ≡ m.addr) × (new ≡ m.map_state)
 Maps (Some m) old new (Err Enomem) = ⊥
 Maps None old new (Ok addr) = ⊥
 Maps None old new (Err Enomem) = new ≡ old
@@ -132,7 +132,7 @@ Unmaps None old new (Err errno) = (errno ≡ Einval) × (new ≡ old)
 pub record OthersKeepIds (first : ℕ) (old new : Numbered) : Type 0 where
   pub id : ℕ
   pub start : start_of old id ≡ first
-  pub others : OthersStay id old new
+  pub others : OthersRemain id old new
 
 -- ---- what the caller owes: each mapping of the space has its region
 

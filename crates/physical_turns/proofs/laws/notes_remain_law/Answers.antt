@@ -1,5 +1,5 @@
 use Rattle.physical_turns.proofs.Growth.{events_add, turns_add, runs_add}
-use Rattle.physical_turns.proofs.laws.notes_stay_law.Goals as goal
+use Rattle.physical_turns.proofs.laws.notes_remain_law.Goals as goal
 
 pub returns-clause-events : goal.returns-clause-events
 returns-clause-events c = events_add
