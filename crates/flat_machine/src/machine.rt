@@ -95,6 +95,16 @@ impl Machine {
         &self.parts.kept.console
     }
 
+    /// All that was written to the console, without the machine.
+    #[tactic(auto, unfolding(kept_parts::specs::Stands::world_of))]
+    pub fn into_console(self) -> Vec<u8>
+        ensures { result.items ≡ (world self).rest.console }
+    {
+        let parts = self.parts;
+        let kept = parts.kept;
+        kept.console
+    }
+
     /// The notes, oldest first. Those of loads name programs that are there.
     pub fn notes(&self) -> &[Note]
         ensures loaded { AreLoaded (length (world self.now).rest.programs) (world self.now).notes }

@@ -17,10 +17,9 @@ use Rattle.flat_machine.specs.ByMode.{HaltRuns, GoOnRuns}
 use Rattle.flat_machine.specs.OwnBytes.{own_bytes, memory_bytes}
 use Rattle.suite_top.specs.declared.telling.Telling.{Telling}
 use Rattle.file_commands.specs.declared.answer.Answer.{Answer}
-use Rattle.file_commands.specs.Answer.{ending_in, HasEnding}
 use Rattle.file_commands.specs.Ending.{Ending}
 use Rattle.suite_top.specs.Report.{own_dumps, memory_dumps, shown_of, dumps_of}
-use Rattle.suite_top.specs.Telling.{told_ending, IsTold}
+use Rattle.suite_top.specs.Telling.{told_ending, ending_behind, HasEndingBehind, IsTold}
 use Rattle.host_io.specs.Host.{Told as Outside}
 use Rattle.file_commands.specs.declared.status.Status.TheVariants as status
 use Rattle.file_commands.specs.Arguments.{KeptItems}
@@ -55,7 +54,7 @@ shows_memory : (s : State) (dumps : List Dump) → s.mode ≡ GoOn → dumps_of 
 shows_memory s dumps is = ap (λ (mode : Mode). dumps_of (in_mode s mode) dumps) is
 
 -- an answer, if there is one, with the machine behind it
-with_machine : (result : Result Answer AllocError) (ending : Ending) (w : World) (s : State) → HasEnding ending result → world s ≡ w → IfOk result (Stopped ending w s)
+with_machine : (result : Result Answer AllocError) (ending : Ending) (w : World) (s : State) → HasEndingBehind (world s) ending result → world s ≡ w → IfOk result (Stopped ending w s)
 with_machine (Ok answer) ending w s tells stands = record { tells = tells; stands = stands }
 with_machine (Err error) ending w s tells stands = tt
 
@@ -69,9 +68,9 @@ module _ (telling : Telling) (quanta : List Quantum) (watched : List ℕ) (dumps
   halts is quiet runs =
       let (world_is, ends) = (runs (record { halts = is; quiet = quiet })).turns in
       let walk = turns quanta (world old) in
-      let tells : HasEnding (walked_ending telling watched dumps walk) result =
-      subst (λ (w : World). HasEnding (told_ending telling (watched ++ own_dumps w dumps) w walk.end) result) world_is
-      (subst (λ (dumped : List ℕ). HasEnding (told_ending telling (watched ++ dumped) (world new) walk.end) result) (shows_own new dumps (stays ∙ is)) (told walk.end ends)) in
+      let tells : HasEndingBehind (world new) (walked_ending telling watched dumps walk) result =
+      subst (λ (w : World). HasEndingBehind (world new) (told_ending telling (watched ++ own_dumps w dumps) w walk.end) result) world_is
+      (subst (λ (dumped : List ℕ). HasEndingBehind (world new) (told_ending telling (watched ++ dumped) (world new) walk.end) result) (shows_own new dumps (stays ∙ is)) (told walk.end ends)) in
       with_machine result (walked_ending telling watched dumps walk) walk.world new tells world_is
 
   goes_on : old.mode ≡ GoOn → (old.mode ≡ GoOn → GoOnRuns quanta old new (Ok end))
@@ -80,9 +79,9 @@ module _ (telling : Telling) (quanta : List Quantum) (watched : List ℕ) (dumps
   goes_on is runs =
       let (memory_is, ends) = (runs is).memory in
       let walk = turns_in quanta (one_memory old) in
-      let tells : HasEnding (walked_on_ending telling watched dumps walk) result =
-      subst (λ (p : Physical). HasEnding (told_ending telling (watched ++ memory_dumps p dumps) p.world walk.end) result) (sym memory_is)
-      (subst (λ (dumped : List ℕ). HasEnding (told_ending telling (watched ++ dumped) (world new) walk.end) result) (shows_memory new dumps (stays ∙ is)) (told walk.end ends)) in
+      let tells : HasEndingBehind (world new) (walked_on_ending telling watched dumps walk) result =
+      subst (λ (p : Physical). HasEndingBehind (world new) (told_ending telling (watched ++ memory_dumps p dumps) p.world walk.end) result) (sym memory_is)
+      (subst (λ (dumped : List ℕ). HasEndingBehind (world new) (told_ending telling (watched ++ dumped) (world new) walk.end) result) (shows_memory new dumps (stays ∙ is)) (told walk.end ends)) in
       with_machine result (walked_on_ending telling watched dumps walk) walk.now.world new tells (ap (λ (p : Physical). p.world) (sym memory_is))
 
   -- that text is the one of the definition
@@ -106,20 +105,20 @@ by_modes P GoOn halt go_on = go_on refl
 pub is_no_failed_load : (telling : Telling) (c : Course) (old new : State) (answer : Answer) → TellsHalting telling c old new (Ok answer) → TellsGoingOn telling c old new (Ok answer) → answer.status ≢ status.HostRead
 is_no_failed_load telling c old new answer halt go_on =
     by_modes (answer.status ≢ status.HostRead) old.mode
-    (λ is. let walk = turns (turns_of c) (world old) in stop_is_told (ending_in answer) telling _ walk.world walk.end (halt is).tells)
-    (λ is. let walk = turns_in (turns_of c) (one_memory old) in stop_is_told (ending_in answer) telling _ walk.now.world walk.end (go_on is).tells)
+    (λ is. let walk = turns (turns_of c) (world old) in stop_is_told (ending_behind (world new).rest.console answer) telling _ walk.world walk.end (halt is).tells)
+    (λ is. let walk = turns_in (turns_of c) (one_memory old) in stop_is_told (ending_behind (world new).rest.console answer) telling _ walk.now.world walk.end (go_on is).tells)
 
 -- what is kept of the world of the machine is kept of that of the definition
 pub keeps_with : (kept : Option KeptItems) (answer : Answer) (s : State) (ending : Ending) (w : World) (before after : Observed Outside) (last : Ending)
-    → Stopped ending w s answer → Performs before after (kept_outcome kept (world s) (ending_in answer)) last → Performs before after (kept_outcome kept w ending) last
+    → Stopped ending w s answer → Performs before after (kept_outcome kept (world s) (ending_behind (world s).rest.console answer)) last → Performs before after (kept_outcome kept w ending) last
 keeps_with kept answer s ending w before after last is performs =
-    let of_world = subst (λ (v : World). Performs before after (kept_outcome kept v (ending_in answer)) last) is.stands performs in
+    let of_world = subst (λ (v : World). Performs before after (kept_outcome kept v (ending_behind (world s).rest.console answer)) last) is.stands performs in
     subst (λ (e : Ending). Performs before after (kept_outcome kept w e) last) is.tells of_world
 
 -- and so is what is kept of the machine's run, by its mode
 pub keeps_all : (kept : Option KeptItems) (telling : Telling) (mode : Mode) (c : Course) (headers : List (List ℕ)) (old new : State) (answer : Answer) (before after : Observed Outside) (last : Ending)
     → old.mode ≡ mode → one_memory old ≡ opening_in headers (world old) → TellsHalting telling c old new (Ok answer) → TellsGoingOn telling c old new (Ok answer)
-    → Performs before after (kept_outcome kept (world new) (ending_in answer)) last → Performs before after (mode_outcome kept telling mode (turns_of c) c.watches.items c.dumps.items headers (world old)) last
+    → Performs before after (kept_outcome kept (world new) (ending_behind (world new).rest.console answer)) last → Performs before after (mode_outcome kept telling mode (turns_of c) c.watches.items c.dumps.items headers (world old)) last
 keeps_all kept telling mode c headers old new answer before after last is memory halt go_on performs =
     ends_as old kept telling mode (turns_of c) c.watches.items c.dumps.items headers before after last is memory
     (λ halts. keeps_with kept answer new _ _ before after last (halt halts) performs)

@@ -9,11 +9,11 @@ use Rattle.physical_turns.specs.Physical.{turns_in}
 use Rattle.flat_machine.specs.State.{State, world, one_memory}
 use Rattle.flat_machine.specs.Runs.{repeated}
 use Rattle.file_commands.specs.declared.answer.Answer.{Answer}
-use Rattle.file_commands.specs.Answer.{ending_in}
 use Rattle.file_commands.specs.Ending.{Ending}
 use Rattle.suite_top.specs.declared.course.Course.{Course}
 use Rattle.suite_top.specs.declared.telling.Telling.{Telling}
 use Rattle.suite_top.specs.Run.{world_ending, memory_run_ending}
+use Rattle.suite_top.specs.Telling.{ending_behind}
 
 -- its turns
 abbrev pub turns_of : Course → List Quantum
@@ -23,9 +23,9 @@ turns_of c = repeated c.repeat c.quanta.items
 abbrev pub IsCounted : Course → State → Type 0
 IsCounted c s = s.events + c.repeat * sum_by (λ q. q.count) c.quanta.items < 2 ^ 64
 
--- a machine that stopped in this world, and the answer that tells of it
+-- a machine that stopped in this world, and the answer that tells of it behind its console
 pub record Stopped (ending : Ending) (w : World) (s : State) (answer : Answer) : Type 0 where
-  pub tells : ending_in answer ≡ ending
+  pub tells : ending_behind (world s).rest.console answer ≡ ending
   pub stands : world s ≡ w
 
 -- what is told behind them

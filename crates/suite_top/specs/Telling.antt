@@ -1,5 +1,5 @@
 -- What a run of programs tells: with `run` its report, with `trace` its calls as a trace, and with `demo` a line.
-use Rattle.std.specs.Prelude.{ℕ, Bool, false, List, ◌++◌, reverse, length, sum_by, Option, Some, None, Result}
+use Rattle.std.specs.Prelude.{◌≡◌, ℕ, Bool, false, List, ◌++◌, reverse, length, sum_by, Option, Some, None, Result, IfOk}
 use Rattle.std.specs.declared.alloc.AllocError.{AllocError}
 use Rattle.call_log.specs.declared.how.How.TheVariants as how
 use Rattle.call_log.specs.Notes.{Note, end_note}
@@ -12,7 +12,6 @@ use Rattle.suite_top.specs.declared.telling.Telling.{Telling}
 use Rattle.suite_top.specs.declared.telling.Telling.TheVariants as telling
 use Rattle.file_commands.specs.Texts.{demo_line}
 use Rattle.file_commands.specs.declared.answer.Answer.{Answer}
-use Rattle.file_commands.specs.Answer.{HasEnding}
 use Rattle.file_commands.specs.Ending.{Ending, done_ending}
 use Rattle.flat_machine.specs.State.{State, world}
 use Rattle.suite_top.specs.Report.{status_of_end, report_text, trace_report}
@@ -56,15 +55,23 @@ watch_of (telling.Report log watch) = watch
 watch_of (telling.Trace pid counted) = None
 watch_of (telling.Demo programs) = None
 
--- of each end that the code's end says, if there is memory
-abbrev pub EndsWith : (report : List ℕ) → State → Told → Result Answer AllocError → Type 0
-EndsWith report s told result = (end : Option End) → Ends end told → HasEnding (ending_with report (world s) end) result
+-- the ending that an answer is behind this console
+abbrev pub ending_behind : (console : List ℕ) → Answer → Ending
+ending_behind console answer = record { status = answer.status; out = console ++ answer.out.items; report = answer.report.items }
+
+-- behind the console of this world the answer has this ending, if there was memory for it
+abbrev pub HasEndingBehind : World → Ending → Result Answer AllocError → Type 0
+HasEndingBehind w wanted result = IfOk result (λ answer. ending_behind w.rest.console answer ≡ wanted)
+
+-- of each end that the code's end says, behind its console
+abbrev pub EndsWith : (report : List ℕ) → World → Told → Answer → Type 0
+EndsWith report w told answer = (end : Option End) → Ends end told → ending_behind w.rest.console answer ≡ ending_with report w end
 
 abbrev pub IsReported : (log : Bool) → (shown : List ℕ) → State → Told → Result Answer AllocError → Type 0
-IsReported log shown s told result = (end : Option End) → Ends end told → HasEnding (reported_ending log shown (world s) end) result
+IsReported log shown s told result = (end : Option End) → Ends end told → HasEndingBehind (world s) (reported_ending log shown (world s) end) result
 
 abbrev pub IsTraced : Option ℕ → (counted : Bool) → (shown : List ℕ) → State → Told → Result Answer AllocError → Type 0
-IsTraced pid counted shown s told result = (end : Option End) → Ends end told → HasEnding (traced_ending pid counted shown (world s) end) result
+IsTraced pid counted shown s told result = (end : Option End) → Ends end told → HasEndingBehind (world s) (traced_ending pid counted shown (world s) end) result
 
 abbrev pub IsTold : Telling → (shown : List ℕ) → State → Told → Result Answer AllocError → Type 0
-IsTold telling shown s told result = (end : Option End) → Ends end told → HasEnding (told_ending telling shown (world s) end) result
+IsTold telling shown s told result = (end : Option End) → Ends end told → HasEndingBehind (world s) (told_ending telling shown (world s) end) result

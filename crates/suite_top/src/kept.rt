@@ -1,10 +1,11 @@
 //! The items that a run keeps.
 ghost use Rattle.std.specs.Prelude.{◌≡◌, ◌≢◌, IfOk};
 ghost use Rattle.flat_machine.specs.State.{world};
-ghost use Rattle.file_commands.specs.Answer.{ending_in, ending_of};
+ghost use Rattle.file_commands.specs.Answer.{ending_of, HasEnding};
 ghost use Rattle.file_commands.specs.Observed.{observed};
 ghost use Rattle.file_commands.specs.HostCourse.{Performs};
 ghost use Rattle.suite_top.specs.Kept.{keep_of, kept_text, kept_outcome, kept_in};
+ghost use Rattle.suite_top.specs.Telling.{ending_behind};
 
 use file_commands::{Answer, KeptItems, Status, store_file};
 use flat_machine::Machine;
@@ -22,24 +23,38 @@ pub fn keep_of(kept: Option<KeptItems<'_>>) -> u32
     }
 }
 
-/// Stores the items of the space that a machine recorded, if they are kept, and then has this answer.
+/// Stores the items of the space that a machine recorded, if they are kept, and then has its console and this answer behind it.
 pub fn keep_items<H: Host>(
     alloc: Global,
-    machine: &Machine,
+    machine: Machine,
     kept: Option<KeptItems<'_>>,
     answer: Answer,
     host: &mut H,
 ) -> Result<Answer, AllocError>
     requires { answer.status ≢ Status.HostRead }
-    ensures { Performs (observed H.told H.faults host.old) (observed H.told H.faults host.new) (kept_outcome (kept_in kept.entry) (world machine.now) (ending_in answer)) (ending_of result) }
+    ensures { Performs (observed H.told H.faults host.old) (observed H.told H.faults host.new) (kept_outcome (kept_in kept.entry) (world machine) (ending_behind (world machine).rest.console answer)) (ending_of result) }
 {
     match kept {
         Some(kept) => {
-            let text = kept_text(alloc, machine)?;
-            store_file(alloc, kept.file, &text, answer, host)
+            let text = kept_text(alloc, &machine)?;
+            let whole = with_console(machine, answer)?;
+            store_file(alloc, kept.file, &text, whole, host)
         }
-        None => Ok(answer),
+        None => with_console(machine, answer),
     }
+}
+
+/// The console, and this answer behind it. The console isn't copied, for it may be most of what a run holds.
+fn with_console(machine: Machine, answer: Answer) -> Result<Answer, AllocError>
+    ensures { HasEnding (ending_behind (world machine).rest.console answer) result }
+{
+    let mut out = machine.into_console();
+    out.extend_from_slice(&answer.out)?;
+    Ok(Answer {
+        status: answer.status,
+        out,
+        report: answer.report,
+    })
 }
 
 /// The text of these items, or the line `none` where no program was loaded into such a space.

@@ -152,7 +152,7 @@ where
     };
     let mut machine = boot(alloc, setup, chooser)?;
     let answer = run_machine(alloc, &mut machine, &course, telling, chooser, points)?;
-    Ok(keep_items(alloc, &machine, kept, answer, host)?)
+    Ok(keep_items(alloc, machine, kept, answer, host)?)
 }
 
 /// What the lines bring in.

@@ -1,10 +1,10 @@
 //! What a run of programs tells when it has stopped.
 ghost use Rattle.std.specs.Prelude.{◌≡◌, map, sum_by};
 ghost use Rattle.call_log.specs.Values.{note_value};
+ghost use Rattle.machine_world.specs.World.{World};
 ghost use Rattle.flat_machine.specs.State.{world};
 ghost use Rattle.file_commands.specs.Ending.{done_ending};
-ghost use Rattle.file_commands.specs.Answer.{HasEnding};
-ghost use Rattle.suite_top.specs.Telling.{exit_code, demo_text, watch_of, EndsWith, IsReported, IsTraced, IsTold};
+ghost use Rattle.suite_top.specs.Telling.{exit_code, demo_text, watch_of, HasEndingBehind, EndsWith, IsReported, IsTraced, IsTold};
 
 use crate::report::{report, status_of, trace_report};
 use call_log::{How, Note};
@@ -34,7 +34,8 @@ pub fn watch_of(telling: Telling) -> Option<PointKind>
     }
 }
 
-/// What a machine tells that stopped so, with what is shown behind its notes.
+/// What a machine tells that stopped so, with what is shown behind its notes. Its console isn't in the answer's `out`, but belongs in
+/// front of it.
 pub fn told(
     alloc: Global,
     machine: &Machine,
@@ -56,7 +57,7 @@ pub fn told(
     }
 }
 
-/// The console, and the report.
+/// Behind the console, the report.
 fn reported(
     alloc: Global,
     machine: &Machine,
@@ -67,10 +68,10 @@ fn reported(
     ensures { IsReported log shown.now machine.now end result }
 {
     let report = report(alloc, machine, log, shown, end)?;
-    with_console(alloc, machine, report, end)
+    Ok(ended_with(alloc, report, end))
 }
 
-/// The console, and the report with a trace.
+/// Behind the console, the report with a trace.
 fn traced(
     alloc: Global,
     machine: &Machine,
@@ -82,38 +83,30 @@ fn traced(
     ensures { IsTraced pid counted shown.now machine.now end result }
 {
     let report = trace_report(alloc, machine, pid, counted, shown, end)?;
-    with_console(alloc, machine, report, end)
+    Ok(ended_with(alloc, report, end))
 }
 
-/// The console, and this report.
-fn with_console(
-    alloc: Global,
-    machine: &Machine,
-    report: Vec<u8>,
-    end: End,
-) -> Result<Answer, AllocError>
-    ensures { EndsWith report.items machine.now end result }
+/// Behind the console, this report.
+fn ended_with(alloc: Global, report: Vec<u8>, end: End) -> Answer
+    ensures { (w : World) → EndsWith report.items w end result }
 {
-    let out = Vec::from_slice(alloc, machine.console())?;
-    Ok(Answer {
+    Answer {
         status: status_of(end),
-        out,
+        out: Vec::new(alloc),
         report,
-    })
+    }
 }
 
-/// The console, and the line of a demo behind it.
+/// Behind the console, the line of a demo.
 fn demonstrated(alloc: Global, machine: &Machine, programs: u32) -> Result<Answer, AllocError>
-    ensures { HasEnding (done_ending (demo_text programs (world machine.now))) result }
+    ensures { HasEndingBehind (world machine.now) (done_ending (demo_text programs (world machine.now))) result }
 {
-    let console = machine.console();
     let exits = exit_sum(machine.notes());
-    let line = texts::demo_line(alloc, programs, machine.events(), console.len(), exits)?;
-    let mut out = Vec::from_slice(alloc, console)?;
-    out.extend_from_slice(line.as_bytes())?;
+    let length = machine.console().len();
+    let line = texts::demo_line(alloc, programs, machine.events(), length, exits)?;
     Ok(Answer {
         status: Status::Done,
-        out,
+        out: line.into_bytes(),
         report: Vec::new(alloc),
     })
 }
