@@ -11,9 +11,6 @@ ghost use Rattle.region_watch.specs.Watched.{first_stray};
 use crate::watch::Watch;
 use rv32im_step::{RegisterFile, Regs, Stop, step_at};
 
-/// The fewest instructions for which a watch of its own pays.
-const FEW: u32 = 16;
-
 /// How far a program came.
 #[derive(Clone, Copy, PartialEq, Eq)]
 pub struct Progress {
@@ -95,38 +92,10 @@ fn steps_at(pc: &mut u32, x: &mut RegisterFile, watch: &mut Watch<'_>, count: u3
     }
 }
 
-/// `steps_at` over a watch of its own, whose fields stay in registers. It takes some thirty instructions of the host to make it, and
-/// saves three for each that is carried out.
-#[inline]
-fn steps_in(pc: &mut u32, x: &mut RegisterFile, watch: &mut Watch<'_>, count: u32) -> Progress
-    ensures leaves { ran (registers pc.new x.new) (passed_bytes watch.old.mode watch.old.owners.now watch.new.mem.now) result.done result.stop
-        ≡ instructions count (passes watch.old.mode watch.old.owners.now true) (registers pc.old x.old) (passed_bytes watch.old.mode watch.old.owners.now watch.old.mem.now) }
-    ensures frozen { kept_bytes watch.old.mode watch.old.owners.now watch.new.mem.now ≡ kept_bytes watch.old.mode watch.old.owners.now watch.old.mem.now }
-    ensures length { length watch.new.mem.now ≡ length watch.old.mem.now }
-    ensures owners { watch.new.owners.now ≡ watch.old.owners.now }
-    ensures mode { watch.new.mode ≡ watch.old.mode }
-    ensures first { first_stray watch.new ≡ stray_after_all watch.old.owners.now (first_stray watch.old)
-        (all_asked count (passes watch.old.mode watch.old.owners.now true) (registers pc.old x.old) (passed_bytes watch.old.mode watch.old.owners.now watch.old.mem.now)) }
-    ensures halts { watch.old.mode ≡ Halt → first_stray watch.new ≡ stray_after_stop (first_stray watch.old) result.stop }
-    ensures same_reference { watch.new.mem.ghost_name ≡ watch.old.mem.ghost_name }
-{
-    let mut own = Watch {
-        mem: &mut *watch.mem,
-        owners: watch.owners,
-        mode: watch.mode,
-        from: watch.from,
-        reach: watch.reach,
-        second_from: watch.second_from,
-        second_reach: watch.second_reach,
-        first: watch.first,
-    };
-    let progress = steps_at(pc, x, &mut own, count);
-    watch.first = own.first;
-    progress
-}
-
-/// Carries out up to `count` instructions, and stops at the first that isn't carried out.
+/// Carries out up to `count` instructions, and stops at the first that isn't carried out. The loop has a watch of its own, whose fields
+/// stay in registers, and a first instruction, so that pc has one register.
 #[inline(never)]
+#[tactic(auto, unfolding(crate::specs::Instructions::instructions, crate::specs::Instructions::all_asked))]
 pub fn run_steps(regs: &mut Regs, watch: &mut Watch<'_>, count: u32) -> Progress
     ensures leaves { ran regs.new (passed_bytes watch.old.mode watch.old.owners.now watch.new.mem.now) result.done result.stop
         ≡ instructions count (passes watch.old.mode watch.old.owners.now true) regs.old (passed_bytes watch.old.mode watch.old.owners.now watch.old.mem.now) }
@@ -139,13 +108,26 @@ pub fn run_steps(regs: &mut Regs, watch: &mut Watch<'_>, count: u32) -> Progress
     ensures halts { watch.old.mode ≡ Halt → first_stray watch.new ≡ stray_after_stop (first_stray watch.old) result.stop }
     ensures same_reference { watch.new.mem.ghost_name ≡ watch.old.mem.ghost_name }
 {
+    if count == 0 {
+        return Progress {
+            done: 0,
+            stop: Stop::Next,
+        };
+    }
     let mut pc = regs.pc;
     let mut x = RegisterFile::of(&regs.x);
-    let progress = if count < FEW {
-        steps_at(&mut pc, &mut x, watch, count)
-    } else {
-        steps_in(&mut pc, &mut x, watch, count)
+    let mut own = Watch {
+        mem: &mut *watch.mem,
+        owners: watch.owners,
+        mode: watch.mode,
+        from: watch.from,
+        reach: watch.reach,
+        second_from: watch.second_from,
+        second_reach: watch.second_reach,
+        first: watch.first,
     };
+    let progress = steps_at(&mut pc, &mut x, &mut own, count);
+    watch.first = own.first;
     *regs = Regs { pc, x: x.array() };
     progress
 }
