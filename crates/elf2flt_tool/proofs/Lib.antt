@@ -32,6 +32,7 @@ pub mod Shapes
 pub mod Walked
 pub mod Entries
 pub mod Painted
+pub mod Slid
 pub mod Numbered
 pub mod Assembled
 pub mod Faults

@@ -1,7 +1,10 @@
 -- How far a walk over the kept relocations has come.
 use Rattle.std.specs.Prelude.{◌≡◌, ℕ, ◌+◌, List, ◌++◌, map, flat_map, None}
 use Rattle.std.specs.List.{range_with_len}
+use Rattle.elf32_reader.specs.Accepted.{IsAccepted}
+use Rattle.flat_layout.specs.declared.layout.Layout.{Layout}
 use Rattle.flat_layout.specs.Layout.{layout}
+use Rattle.flat_layout.specs.Fault.{layout_fault}
 use Rattle.psabi_relocs.specs.declared.spans.Span.{Span}
 use Rattle.psabi_relocs.specs.Effect.{spans}
 use Rattle.elf2flt_tool.specs.declared.cover.Cover.{Cover}
@@ -11,6 +14,7 @@ use Rattle.elf2flt_tool.specs.Relocs.{spans_in}
 use Rattle.elf2flt_tool.specs.Cover.{recorded_of, IsCover}
 use Rattle.elf2flt_tool.specs.Word.{records, word_overlap}
 use Rattle.elf2flt_tool.specs.Fault.{relocs_fault}
+use Rattle.elf2flt_tool.specs.Image.{IsLinkedFile}
 
 -- the bytes of the sections before section i, and of the first j entries of that, a list for each entry
 abbrev pub spans_before : List ℕ → ℕ → ℕ → List (List Span)
@@ -35,3 +39,11 @@ pub record IsPlaced (e : List ℕ) (p : Placed) : Type 0 where
   pub relocs : relocs_fault e ≡ None
   pub places : p.places.items ≡ records e
   pub met : p.met ≡ word_overlap e
+
+-- a file whose sections and kept relocations have no fault, with what its flat file is made of: its layout, its linked bytes, and where these have recorded words
+pub record IsPrepared (e : List ℕ) (l : Layout) (file : List ℕ) (p : Placed) : Type 0 where
+  pub accepted : IsAccepted e
+  pub no_fault : layout_fault e ≡ None
+  pub layout : l ≡ layout e
+  pub linked : IsLinkedFile e file
+  pub placed : IsPlaced e p

@@ -1,20 +1,19 @@
 //! The conversion.
 
-ghost use Rattle.std.specs.Prelude.{◌≡◌, ◌+◌, ◌≤◌, ◌⊎◌, Some, None, MatchResult};
+ghost use Rattle.std.specs.Prelude.{◌≡◌, ℕ, ◌≤◌, ◌⊎◌, List, Some, None, MatchResult};
 ghost use Rattle.elf32_reader.specs.Accepted.{IsAccepted};
-ghost use Rattle.byte_words.specs.Patches.{bytes_below};
 ghost use Rattle.flat_layout.specs.Fault.{layout_fault};
 ghost use Rattle.flat_layout.specs.Layout.{layout as layout_of};
 ghost use Rattle.elf2flt_tool.specs.Fault.{address_of, fault, relocs_fault};
-ghost use Rattle.elf2flt_tool.specs.Image.{bare};
 ghost use Rattle.elf2flt_tool.specs.Converted.{converted, flat};
-ghost use Rattle.elf2flt_tool.specs.Walk.{IsPlaced};
+ghost use Rattle.elf2flt_tool.specs.Walk.{IsPlaced, IsPrepared};
 
 use crate::collect::cover_all;
-use crate::image::{HEADER_LEN, linked_file, with_numbers};
+use crate::image::{HEADER_LEN, linked_file, linked_len, with_numbers};
 use crate::met::lowest_overlap;
 use crate::places::places_of;
 use crate::refusal::Refusal;
+use crate::slide::{slid_file, slides_of};
 use crate::target::lowest_outside;
 use bflt_format::Flat;
 use elf32_reader::Elf;
@@ -56,15 +55,13 @@ fn find_places(alloc: Global, elf: &Elf<'_>, layout: &Layout) -> Result<Placed, 
     Ok(Placed { places, met })
 }
 
-/// Whether each recorded word points into the image and none meets another relocation. `image` has the file's linked bytes.
-fn test_words(elf: &Elf<'_>, layout: &Layout, image: &[u8], placed: &Placed) -> Result<(), Refusal>
-    requires accepted { IsAccepted elf.now }
-    requires no_fault { layout_fault elf.now ≡ None }
-    requires layout { layout.now ≡ layout_of elf.now }
-    requires image { image.now ≡ bytes_below (layout.now.text + layout.now.data_len) (bare elf.now) }
-    requires placed { IsPlaced elf.now placed.now }
-    ensures { MatchResult result (λ _. fault elf.now ≡ None) (λ refusal. fault elf.now ≡ Some refusal) }
+/// Whether each recorded word points into the image and none meets another relocation.
+fn test_words(layout: &Layout, linked: &[u8], placed: &Placed) -> Result<(), Refusal>
+    requires { (e : List ℕ) × IsPrepared e layout.now linked.now placed.now }
+    ensures { (e : List ℕ) → IsPrepared e layout.now linked.now placed.now →
+        MatchResult result (λ _. fault e ≡ None) (λ refusal. fault e ≡ Some refusal) }
 {
+    let image = &linked[HEADER_LEN as usize..];
     if let Some(number) = lowest_outside(layout, image, &placed.places) {
         return Err(Refusal::TargetOutside {
             place: address_of(layout, number),
@@ -78,24 +75,14 @@ fn test_words(elf: &Elf<'_>, layout: &Layout, image: &[u8], placed: &Placed) -> 
     Ok(())
 }
 
-/// The flat file of a linked file that was read and laid out.
-fn converted_flat(
-    alloc: Global,
-    elf: &Elf<'_>,
-    layout: &Layout,
-    stack: u32,
-) -> Result<Flat, Refusal>
-    requires accepted { IsAccepted elf.now }
-    requires no_fault { layout_fault elf.now ≡ None }
-    requires layout { layout.now ≡ layout_of elf.now }
+/// The flat file of a file that is linked so. It is written in the linked file's place.
+fn flat_of(layout: &Layout, linked: Vec<u8>, placed: Placed, stack: u32) -> Result<Flat, Refusal>
+    requires prepared { (e : List ℕ) × IsPrepared e layout.now linked.items placed }
     requires stack_limit { stack ≤ 1048576 }
-    ensures { MatchResult result
-        (λ flat. (fault elf.now ≡ None) × (flat ≡ converted elf.now stack))
-        (λ refusal. (refusal ≡ Refusal.Memory) ⊎ (fault elf.now ≡ Some refusal)) }
+    ensures { (e : List ℕ) → IsPrepared e layout.now linked.items placed →
+        MatchResult result (λ flat. (fault e ≡ None) × (flat ≡ converted e stack)) (λ refusal. fault e ≡ Some refusal) }
 {
-    let placed = find_places(alloc, elf, layout)?;
-    let linked = linked_file(alloc, elf, layout)?;
-    test_words(elf, layout, &linked[HEADER_LEN as usize..], &placed)?;
+    test_words(layout, &linked, &placed)?;
     let file = with_numbers(linked, layout, &placed.places);
     let stack = stack.div_ceil(STACK_UNIT) * STACK_UNIT;
     let entry = HEADER_LEN + layout.entry;
@@ -124,7 +111,31 @@ pub fn flat_file(alloc: Global, bytes: &[u8], stack: u32) -> Result<Flat, Refusa
 {
     let elf = Elf::read(bytes)?;
     let layout = Layout::of(&elf)?;
-    converted_flat(alloc, &elf, &layout, stack)
+    let placed = find_places(alloc, &elf, &layout)?;
+    let linked = linked_file(alloc, &elf, &layout)?;
+    flat_of(&layout, linked, placed, stack)
+}
+
+/// The same, in the memory that the ELF file takes, where the order of its sections lets its bytes move there.
+///
+/// # Errors
+///
+/// As `flat_file`.
+pub fn flat_file_in_place(alloc: Global, bytes: Vec<u8>, stack: u32) -> Result<Flat, Refusal>
+    requires some_stack { 16 ≤ stack }
+    requires stack_limit { stack ≤ 1048576 }
+    ensures { MatchResult result
+        (λ file. (fault bytes.items ≡ None) × (file ≡ converted bytes.items stack))
+        (λ refusal. (refusal ≡ Refusal.Memory) ⊎ (fault bytes.items ≡ Some refusal)) }
+{
+    let elf = Elf::read(&bytes)?;
+    let layout = Layout::of(&elf)?;
+    let placed = find_places(alloc, &elf, &layout)?;
+    let linked = match slides_of(alloc, &elf, &layout)? {
+        Some(slides) => slid_file(bytes, &slides, linked_len(&layout))?,
+        None => linked_file(alloc, &elf, &layout)?,
+    };
+    flat_of(&layout, linked, placed, stack)
 }
 
 /// The bytes of that flat file.

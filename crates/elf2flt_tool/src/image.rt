@@ -1,6 +1,6 @@
 //! The bytes of text and data.
 
-ghost use Rattle.std.specs.Prelude.{◌≡◌, ◌+◌, ◌<◌, ◌≤◌, true, None, All, length, map, replicate, slice_index, IfOk};
+ghost use Rattle.std.specs.Prelude.{◌≡◌, ◌+◌, ◌^◌, ◌<◌, ◌≤◌, true, None, All, length, map, replicate, slice_index, IfOk};
 ghost use Rattle.elf32_reader.specs.Accepted.{IsAccepted};
 ghost use Rattle.elf32_reader.specs.Header.{count_of};
 ghost use Rattle.elf32_reader.specs.Sections.{section};
@@ -56,14 +56,21 @@ fn lay_sections(elf: &Elf<'_>, layout: &Layout, image: &mut [u8])
     }
 }
 
+/// How many bytes a linked file has.
+pub fn linked_len(layout: &Layout) -> usize
+    requires { 64 + layout.now.text + layout.now.data_len < 2 ^ 32 }
+    ensures { result ≡ 64 + layout.now.text + layout.now.data_len }
+{
+    (HEADER_LEN + layout.text + layout.data_len) as usize
+}
+
 /// The linked bytes of text and data, zeros where no section stands, behind room for a header.
 pub fn linked_file(alloc: Global, elf: &Elf<'_>, layout: &Layout) -> Result<Vec<u8>, AllocError>
     requires no_fault { layout_fault elf.now ≡ None }
     requires layout { layout.now ≡ layout_of elf.now }
     ensures { IfOk result (λ file. IsLinkedFile elf.now file.items) }
 {
-    let len = (HEADER_LEN + layout.text + layout.data_len) as usize;
-    let mut file = vec![in alloc; 0; len]?;
+    let mut file = vec![in alloc; 0; linked_len(layout)]?;
     lay_sections(elf, layout, &mut file[HEADER_LEN as usize..]);
     Ok(file)
 }

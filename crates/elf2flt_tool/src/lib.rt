@@ -13,9 +13,10 @@ mod met;
 mod overlap;
 mod places;
 mod refusal;
+mod slide;
 mod target;
 mod word;
 
-pub use conversion::{convert, flat_file};
+pub use conversion::{convert, flat_file, flat_file_in_place};
 pub use laws::{flat_law, image_law, linux_law, nothing_else_law};
 pub use refusal::Refusal;

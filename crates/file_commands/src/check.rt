@@ -10,7 +10,7 @@ use crate::arguments::DEFAULT_STACK;
 use crate::convert::refuse;
 use crate::file_load::load_file;
 use crate::texts;
-use elf2flt_tool::flat_file;
+use elf2flt_tool::flat_file_in_place;
 use host_io::Host;
 use std::alloc::{AllocError, Global};
 
@@ -19,15 +19,15 @@ pub fn check_file<H: Host>(alloc: Global, elf: &str, host: &mut H) -> Result<Ans
     ensures { PerformsCommand (observed H.told H.faults host.old) (observed H.told H.faults host.new) (check_outcome elf.now) (ending_of result) }
 {
     match load_file(alloc, elf, host) {
-        Ok(bytes) => check_bytes(alloc, &bytes),
+        Ok(bytes) => check_bytes(alloc, bytes),
         Err(ended) => ended.answer(),
     }
 }
 
-fn check_bytes(alloc: Global, bytes: &[u8]) -> Result<Answer, AllocError>
-    ensures { OrMemory (checked_ending bytes.now) (ending_of result) }
+fn check_bytes(alloc: Global, bytes: Vec<u8>) -> Result<Answer, AllocError>
+    ensures { OrMemory (checked_ending bytes.items) (ending_of result) }
 {
-    match flat_file(alloc, bytes, DEFAULT_STACK) {
+    match flat_file_in_place(alloc, bytes, DEFAULT_STACK) {
         Ok(flat) => {
             let line = texts::check_line(alloc, &flat)?;
             Ok(Answer::done(alloc, line))

@@ -16,7 +16,7 @@ use crate::status::Status;
 use crate::store::store_file;
 use crate::texts;
 use bflt_format::Flat;
-use elf2flt_tool::{Refusal, flat_file};
+use elf2flt_tool::{Refusal, flat_file_in_place};
 use host_io::Host;
 use std::alloc::{AllocError, Global};
 
@@ -33,23 +33,23 @@ pub fn convert_file<H: Host>(
     ensures { PerformsCommand (observed H.told H.faults host.old) (observed H.told H.faults host.new) (convert_outcome elf.now flt.now stack) (ending_of result) }
 {
     match load_file(alloc, elf, host) {
-        Ok(bytes) => convert_bytes(alloc, &bytes, flt, stack, host),
+        Ok(bytes) => convert_bytes(alloc, bytes, flt, stack, host),
         Err(ended) => ended.answer(),
     }
 }
 
 fn convert_bytes<H: Host>(
     alloc: Global,
-    bytes: &[u8],
+    bytes: Vec<u8>,
     flt: &str,
     stack: u32,
     host: &mut H,
 ) -> Result<Answer, AllocError>
     requires some_stack { least_stack ≤ stack }
     requires stack_limit { stack ≤ most_stack }
-    ensures { Performs (observed H.told H.faults host.old) (observed H.told H.faults host.new) (converted_outcome flt.now stack bytes.now) (ending_of result) }
+    ensures { Performs (observed H.told H.faults host.old) (observed H.told H.faults host.new) (converted_outcome flt.now stack bytes.items) (ending_of result) }
 {
-    match flat_file(alloc, bytes, stack) {
+    match flat_file_in_place(alloc, bytes, stack) {
         Ok(flat) => store_flat(alloc, flt, flat, host),
         Err(refusal) => refuse(alloc, &refusal),
     }

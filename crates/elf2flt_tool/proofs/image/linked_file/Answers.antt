@@ -9,13 +9,8 @@ use Rattle.elf2flt_tool.specs.Image.{bare}
 use Rattle.elf2flt_tool.proofs.Painted.{header_back, image_back}
 use Rattle.elf2flt_tool.proofs.image.linked_file.Goals as goal
 
-pub overflow_add-len : goal.overflow_add-len
-overflow_add-len c =
-    let small = size_le c.args.elf.now c.requires.no_fault in
-    rw c.requires.layout (omega arith)
-
-pub overflow_add-len-2 : goal.overflow_add-len-2
-overflow_add-len-2 c =
+pub linked_len-requires : goal.linked_len-requires
+linked_len-requires c =
     let small = size_le c.args.elf.now c.requires.no_fault in
     rw c.requires.layout (omega arith)
 
