@@ -15,9 +15,12 @@ use Rattle.kept_parts.specs.Kept.{Kept}
 use Rattle.kept_parts.specs.Reach.{is_whole}
 use Rattle.kept_parts.specs.Stands.{About, world_of}
 use Rattle.kept_parts.specs.Serves.{Answered}
-use Rattle.syscall_layer.specs.ByMode.{ServesFirst}
+use Rattle.syscall_layer.specs.ByMode.{ServesFirst, GoOnServes}
+use Rattle.syscall_layer.specs.Parts.{RunParts, noted_by}
+use Rattle.page_runs.specs.declared.place.Kind.{Kind}
+use Rattle.kept_parts.specs.Flats.{ForRuns}
 use Rattle.std.specs.Result.{IsErr}
-use Rattle.kept_parts.specs.InMemory.{physical_of, GoesIn, InReach, ServesOn, first_range, called_on, with_range, without_newest}
+use Rattle.kept_parts.specs.InMemory.{headers_of, physical_of, GoesIn, InReach, ServesOn, first_range, called_on, with_range, without_newest}
 
 abbrev IsStray : Served → Type 0
 IsStray (served.Stray access) = Unit {0}
@@ -166,17 +169,37 @@ module _ (headers : List (List ℕ)) (a : About) (old : Kept) (pid : ℕ) where
     serves_noted : (new : Kept) (s : Served) → InReach Whole headers a (called_in (physical_of headers a behind) pid) behind new pid (Ok s) → ServesOn headers a old new pid (Ok s)
     serves_noted new s x = as_found (Some access) first_is new s (subst (λ (p : Physical). GoesIn headers a (called_in p pid) behind new pid s) (noted_in access) x)
 
-    pub serves_behind : (new : Kept) (r : Result Served AllocError) → OnErr r (new ≡ old)
-        → IfOk r (λ s. InReach Whole headers a (called_in (physical_of headers a behind) pid) behind new pid r) → ServesOn headers a old new pid r
-    serves_behind new (Ok s) same x = serves_noted new s x
-    serves_behind new (Err error) same x = same
-
-    pub first_behind : (new : Kept) (r : Result Served AllocError) → OnErr r (new ≡ old) → IfOk r (λ s. has_stray new.notes ≡ true) → ServesFirst a outcome old new pid r
-    first_behind new (Ok s) same was = first_noted outcome access new s is was
-    first_behind new (Err error) same was = none_first_of outcome new error same
-
-    pub notes_behind : (new : Kept) → new.notes ≡ behind.notes → new.notes ≡ (with_range pid (first_range there pid) old).notes
+    notes_behind : (new : Kept) → new.notes ≡ behind.notes → new.notes ≡ (with_range pid (first_range there pid) old).notes
     notes_behind new same = same ∙ ap (λ (found : Option Access). (with_range pid found old).notes) (sym first_is)
+
+-- ---- the call behind that note, by what it tells of the parts that it is shown
+
+pub record LeavesBehind (kind : Kind) (pid : ℕ) (p q : RunParts) (r : Result Served AllocError) : Type 0 where
+  pub memory : ForRuns kind p.programs (λ a. InReach Whole (headers_of p.programs) a (called_in (physical_of (headers_of p.programs) a p.kept) pid) p.kept q.kept pid r)
+  pub unnoted : r ≡ Ok served.Waits → q.kept.notes ≡ p.kept.notes
+  pub strayed : has_stray q.kept.notes ≡ true
+
+pub leaves_behind : (kind : Kind) (pid : ℕ) (r : Result Served AllocError) (shown left p q : RunParts) → shown ≡ p → left ≡ q → LeavesBehind kind pid shown left r → LeavesBehind kind pid p q r
+leaves_behind kind pid r shown left p q shows leaves x =
+    subst (λ (y : RunParts). LeavesBehind kind pid y q r) shows (subst (λ (y : RunParts). LeavesBehind kind pid shown y r) leaves x)
+
+module _ (kind : Kind) (pid : ℕ) (access : Access) (old new : RunParts) (first : ForRuns kind old.programs (λ a. IsFirst (headers_of old.programs) a old.kept pid access)) where
+  pub goes_on_behind : (r : Result Served AllocError) → OnErr r (new ≡ old) → IfOk r (λ done. LeavesBehind kind pid (noted_by pid access old) new r) → GoOnServes kind pid old new r
+  goes_on_behind (Ok s) same left = record {
+    memory = λ a so are.
+        let at = first a so are in
+        serves_noted (headers_of old.programs) a old.kept pid access at.quiet at.is new.kept s (left.memory a so are);
+    unnoted = λ is a so are.
+        let at = first a so are in
+        notes_behind (headers_of old.programs) a old.kept pid access at.quiet at.is new.kept (left.unnoted is);
+    first = λ quiet a so are.
+        first_noted (headers_of old.programs) a old.kept pid (called (world_of a old.kept) pid) access new.kept s (first a so are).is left.strayed;
+  }
+  goes_on_behind (Err error) same left = record {
+    memory = λ a so are. ap (λ (p : RunParts). p.kept) same;
+    unnoted = λ is. absurd cc;
+    first = λ quiet a so are. none_first_of (headers_of old.programs) a old.kept pid (called (world_of a old.kept) pid) new.kept error (ap (λ (p : RunParts). p.kept) same);
+  }
 
 -- ---- out of memory
 

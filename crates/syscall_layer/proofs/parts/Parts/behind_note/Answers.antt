@@ -6,6 +6,7 @@ use Rattle.kept_parts.specs.InMemory.{without_newest}
 use Rattle.kept_parts.specs.Kept.{Kept}
 use Rattle.kept_parts.specs.Regular.{IsRegular}
 use Rattle.syscall_layer.specs.Events.{GivesParts}
+use Rattle.syscall_layer.specs.Inside.{parts_of}
 use Rattle.syscall_layer.specs.Parts.{RunParts, noted_by}
 use Rattle.syscall_layer.proofs.CallsOn.{of_err, on_err, on_ok}
 use Rattle.syscall_layer.proofs.parts.Parts.behind_note.Given.{Over}
@@ -24,12 +25,16 @@ back : (g : Over) (c : After-take_back g) → c.event-done.new.arg2 ≡ noted_by
 back g c noted =
     c.take_back.ensures ∙ ap (λ (p : RunParts). without_newest p.kept) (c.self-2.view_is ∙ noted) ∙ sym (ap (λ (p : RunParts). p.kept) c.self.view_is)
 
+sound : (mid noted left now : RunParts) → mid ≡ noted → left ≡ noted → now ≡ left → IsRegular (without_newest mid.kept) → IsRegular (without_newest now.kept)
+sound mid noted left now is same shown x =
+    let P : RunParts → Type 0 = λ p. IsRegular (without_newest p.kept) in
+    subst P (sym shown) (subst P (sym same) (subst P is x))
+
 pub take_back-requires : goal.take_back-requires
 take_back-requires g c =
     let is : IsErr c.event-done.result = search rules in
-    let noted = (kept g (goal.at.take_back-requires g c).After-event-done is).0 in
-    let P : RunParts → Type 0 = λ p. IsRegular (without_newest p.kept) in
-    subst P (sym c.self-2.view_is) (subst P (sym noted) (subst P c.in_ok-note_stray.ensures.kept c.in_ok-note_stray.ensures.sound))
+    sound c.note_stray.new.self (noted_by c.args.pid c.args.access c.args.self.now) c.event-done.new.arg2 (parts_of c.self-2.inside)
+    c.in_ok-note_stray.ensures.kept (kept g (goal.at.take_back-requires g c).After-event-done is).0 c.self-2.view_is c.in_ok-note_stray.ensures.sound
 
 pub invariant_of-self : goal.invariant_of-self
 invariant_of-self g c =
