@@ -240,7 +240,7 @@ fn stray<F: Fn(&[Run], u32) -> Option<usize>, G: Fn(&[Span], u32, u32) -> bool>(
             Ok(After::Strays(access))
         }
         Mode::GoOn => {
-            // The closure captures no struct with a lifetime: of one that does what it ensures isn't inferred.
+            // What a closure ensures isn't inferred where it captures a struct with a lifetime.
             let Watcher { point, spans } = *watcher;
             parts.behind_note(pid, access, hits, |parts, hits| {
                 whole_event(parts, pid, chooser, &Watcher { point, spans }, hits)

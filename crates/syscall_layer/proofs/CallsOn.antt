@@ -1,10 +1,8 @@
 -- A call of a run that goes on, by the call within reach.
 use Rattle.std.proofs.Common.{◌≡◌, ◌≢◌, ℕ, Bool, true, false, List, Option, Some, None, Ok, refl, sym, ap, subst, ◌∙◌}
-use Rattle.std.specs.Prelude.{if◌then◌else◌, Result, Err, IsOk, IfOk, OnErr}
+use Rattle.std.specs.Prelude.{if◌then◌else◌, Result, Err, IfOk, OnErr}
 use Rattle.std.specs.declared.alloc.AllocError.{AllocError}
 use Rattle.rv32im_step.specs.declared.access.Access.{Access}
-use Rattle.region_watch.specs.declared.mode.Mode.{Mode}
-use Rattle.region_watch.specs.declared.mode.Mode.TheVariants.{Halt, GoOn}
 use Rattle.machine_world.specs.Event.{Outcome, went, strays, full, idle, called, stray_in}
 use Rattle.physical_turns.specs.Physical.{Physical, After, after, no_room, nobody, has_stray, with_stray, called_in}
 use Rattle.kept_parts.specs.declared.served.Served.{Served}
@@ -20,7 +18,7 @@ use Rattle.syscall_layer.specs.Parts.{RunParts, noted_by}
 use Rattle.page_runs.specs.declared.place.Kind.{Kind}
 use Rattle.kept_parts.specs.Flats.{ForRuns}
 use Rattle.std.specs.Result.{IsErr}
-use Rattle.kept_parts.specs.InMemory.{headers_of, physical_of, GoesIn, InReach, ServesOn, first_range, called_on, with_range, without_newest}
+use Rattle.kept_parts.specs.InMemory.{headers_of, physical_of, GoesIn, InReach, ServesOn, first_range, called_on, with_range}
 
 abbrev IsStray : Served → Type 0
 IsStray (served.Stray access) = Unit {0}

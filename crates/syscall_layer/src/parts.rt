@@ -98,8 +98,8 @@ impl Parts {
         Ok(())
     }
 
-    /// Carries out an event behind the note of its stray access. Out of memory, in which an event changes nothing, there is no such note
-    /// either.
+    /// Carries out an event behind the note of its stray access; it may change a value beside the parts too. Out of memory, in which it
+    /// changes neither, there is no such note either.
     pub fn behind_note<T, C, F: FnOnce(&mut Parts, &mut C) -> Result<T, AllocError>>(
         &mut self,
         pid: u32,

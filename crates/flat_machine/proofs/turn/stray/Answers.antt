@@ -6,7 +6,6 @@ use Rattle.page_runs.specs.Choosers.{kind_of}
 use Rattle.physical_turns.specs.Physical.{has_stray}
 use Rattle.kept_parts.specs.InMemory.{headers_of, physical_of}
 use Rattle.kept_parts.specs.Stands.{later}
-use Rattle.syscall_layer.specs.Events.{GivesParts}
 use Rattle.syscall_layer.specs.Parts.{RunParts, noted_by}
 use Rattle.watch_points.specs.Points.{kind_of_point}
 use Rattle.flat_machine.proofs.EventsOn.{EventTo, HitsTo, event_to, hits_to, hits_kept, both_kept, either_way, memory_behind, hits_behind, past_behind}
