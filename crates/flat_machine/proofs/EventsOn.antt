@@ -402,7 +402,7 @@ module _ (kind : Kind) (pid : ℕ) (r : Result After AllocError) where
         subst (λ (y : RunParts). HitsTo before found y q) shows (subst (λ (y : RunParts). HitsTo before found shown y) leaves
         (subst (λ (h : Found). HitsTo h found shown left) f_is (subst (λ (h : Found). HitsTo f h shown left) g_is x)))
 
-    -- out of memory it leaves both as they were
+    -- out of memory it finds no hit
     pub hits_kept : (before found : Found) (p q : RunParts) → HitsTo before found p q → OnErr r (found ≡ before)
     hits_kept before found p q hits =
         let b = about_with kind p.programs in
