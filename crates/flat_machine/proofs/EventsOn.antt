@@ -1,6 +1,6 @@
 -- An event of a run, by the event within reach: behind the run's first stray access comes its note.
 use Rattle.std.proofs.Common.{◌≡◌, ◌≢◌, ℕ, suc, ◌+◌, Bool, true, false, List, [], Some, None, Result, Ok, Err, refl, sym, ap, subst, ◌∙◌, arith}
-use Rattle.std.specs.Prelude.{IsOk, IfOk, OnErr}
+use Rattle.std.specs.Prelude.{IfOk, OnErr}
 use Rattle.std.specs.Result.{IsErr}
 use Rattle.std.specs.declared.alloc.AllocError.{AllocError}
 use Rattle.std.proofs.lemmas.Bool.{false≢true}
@@ -296,9 +296,9 @@ module _ (point : PointKind) (spans : List Span) (pid : ℕ) where
       lead_used T before found old new 0 (no_hits_in point spans pid new) lead ∙ ap (with_hits before) (no_hits_in point spans pid old) ∙ with_hits-nil before
 
   -- out of memory
-  pub hits_of_err : (before found : Found) (old new : Physical) (r : Result After AllocError) → IsErr r → EventHits T before found old new r → found ≡ before
-  hits_of_err before found old new (Ok done) is x = absurd cc
-  hits_of_err before found old new (Err error) is x = x
+  pub hits_on_err : (before found : Found) (old new : Physical) (r : Result After AllocError) → EventHits T before found old new r → OnErr r (found ≡ before)
+  hits_on_err before found old new (Ok done) x = tt
+  hits_on_err before found old new (Err error) x = x
 
   pub err_hits : (before found : Found) (old new : Physical) (r : Result After AllocError) → IsErr r → found ≡ before → EventHits T before found old new r
   err_hits before found old new (Ok done) is same = absurd cc
@@ -319,84 +319,102 @@ firm_whole Whole p pid stop is s = s
 
 -- ---- behind the note of the run's first stray access
 
-module _ (headers : List (List ℕ)) (a : About) (old mid : Kept) (pid : ℕ) (access : Access) (first : first_stray_in (physical_of headers a old) pid ≡ Some access) (note : mid ≡ with_range pid (Some access) old) where
+module _ (headers : List (List ℕ)) (a : About) (old : Kept) (pid : ℕ) (access : Access) (first : first_stray_in (physical_of headers a old) pid ≡ Some access) where
   abbrev before_it : Physical
   before_it = physical_of headers a old
 
   abbrev behind_it : Physical
-  behind_it = physical_of headers a mid
+  behind_it = physical_of headers a (with_range pid (Some access) old)
 
-  with_note : physical_of headers a (with_range pid (Some access) old) ≡ with_stray pid (Some access) before_it
+  strays_here : StraysIn pid before_it behind_it
   unfolding physical_of world_of
-  with_note = refl
+  strays_here = record { access = access; first = first; noted = refl }
 
-  pub strays_here : StraysIn pid before_it behind_it
-  strays_here = record { access = access; first = first; noted = ap (physical_of headers a) note ∙ with_note }
-
-  pub quiet_before : has_stray old.notes ≡ false
-  unfolding physical_of world_of
-  quiet_before = first_is_quiet before_it pid access first
-
-  leads_behind : CanRun mid.procs pid → (now : Physical) → LeadsIn pid behind_it 1 now → LeadsIn pid before_it 1 now
+  leads_behind : CanRun old.procs pid → (now : Physical) → LeadsIn pid behind_it 1 now → LeadsIn pid before_it 1 now
   unfolding physical_of
   leads_behind can now x left =
       let sum : 1 + left ≡ suc left = omega arith in
-      ap (λ (n : ℕ). turn_in n pid before_it) sum ∙ strays_on pid before_it behind_it strays_here (may_run a mid pid can) left ∙ ap (λ (n : ℕ). turn_in n pid behind_it) (sym sum) ∙ x left
+      ap (λ (n : ℕ). turn_in n pid before_it) sum ∙ strays_on pid before_it behind_it strays_here (may_run a (with_range pid (Some access) old) pid can) left
+      ∙ ap (λ (n : ℕ). turn_in n pid behind_it) (sym sum) ∙ x left
 
-  pub event_behind : CanRun mid.procs pid → (new : Kept) (r : After) → EventIn headers a mid new pid (Ok r) → EventIn headers a old new pid (Ok r)
+  event_behind : CanRun old.procs pid → (new : Kept) (r : After) → EventIn headers a (with_range pid (Some access) old) new pid (Ok r) → EventIn headers a old new pid (Ok r)
   event_behind can new after.GoesOn x = (leads_behind can (physical_of headers (later 1 a) new) x.0, x.1)
   event_behind can new after.TurnEnds x = before_is pid before_it behind_it strays_here ∙ sym (behind_is pid before_it behind_it strays_here) ∙ x
   event_behind can new after.LogFull x = before_is pid before_it behind_it strays_here ∙ sym (behind_is pid before_it behind_it strays_here) ∙ x
   event_behind can new (after.Strays seen) x = absurd x
 
-  pub hits_behind : (point : PointKind) (spans : List Span) (before found : Found) (new : Physical) (r : After) → EventHits (turn_hits_in point spans pid) before found behind_it new (Ok r)
-      → EventHits (turn_hits_in point spans pid) before found before_it new (Ok r)
-  hits_behind point spans before found new after.GoesOn x = λ left. x left ∙ ap (with_hits before) (strays_hit point spans pid before_it behind_it strays_here (1 + left))
-  hits_behind point spans before found new after.TurnEnds x = λ left. x left ∙ ap (with_hits before) (strays_hit point spans pid before_it behind_it strays_here (suc left))
-  hits_behind point spans before found new after.LogFull x = λ left. x left ∙ ap (with_hits before) (strays_hit point spans pid before_it behind_it strays_here (suc left))
-  hits_behind point spans before found new (after.Strays seen) x = λ left. x left ∙ ap (with_hits before) (strays_hit point spans pid before_it behind_it strays_here (suc left))
+  pub memory_behind : CanRun old.procs pid → (new : Kept) (r : Result After AllocError) → OnErr r (new ≡ old)
+      → IfOk r (λ x. EventIn headers a (with_range pid (Some access) old) new pid r) → EventIn headers a old new pid r
+  memory_behind can new (Ok r) same x = event_behind can new r x
+  memory_behind can new (Err error) same x = same
 
-  pub event_behind_ok : CanRun mid.procs pid → (new : Kept) (r : Result After AllocError) → IsOk r → EventIn headers a mid new pid r → EventIn headers a old new pid r
-  event_behind_ok can new (Ok r) ok x = event_behind can new r x
-  event_behind_ok can new (Err error) ok x = absurd cc
+  module _ (point : PointKind) (spans : List Span) (before found : Found) (new : Physical) where
+    hits_behind_event : (r : After) → EventHits (turn_hits_in point spans pid) before found behind_it new (Ok r) → EventHits (turn_hits_in point spans pid) before found before_it new (Ok r)
+    hits_behind_event after.GoesOn x = λ left. x left ∙ ap (with_hits before) (strays_hit point spans pid before_it behind_it strays_here (1 + left))
+    hits_behind_event after.TurnEnds x = λ left. x left ∙ ap (with_hits before) (strays_hit point spans pid before_it behind_it strays_here (suc left))
+    hits_behind_event after.LogFull x = λ left. x left ∙ ap (with_hits before) (strays_hit point spans pid before_it behind_it strays_here (suc left))
+    hits_behind_event (after.Strays seen) x = λ left. x left ∙ ap (with_hits before) (strays_hit point spans pid before_it behind_it strays_here (suc left))
 
-  pub hits_behind_ok : (point : PointKind) (spans : List Span) (before found : Found) (new : Physical) (r : Result After AllocError) → IsOk r → EventHits (turn_hits_in point spans pid) before found behind_it new r
-      → EventHits (turn_hits_in point spans pid) before found before_it new r
-  hits_behind_ok point spans before found new (Ok r) ok x = hits_behind point spans before found new r x
-  hits_behind_ok point spans before found new (Err error) ok x = absurd cc
+    pub hits_behind : (r : Result After AllocError) → OnErr r (found ≡ before)
+        → IfOk r (λ x. EventHits (turn_hits_in point spans pid) before found behind_it new r) → EventHits (turn_hits_in point spans pid) before found before_it new r
+    hits_behind (Ok r) same x = hits_behind_event r x
+    hits_behind (Err error) same x = same
 
-pub past_behind : (kind : Kind) (flats : List Values) (old mid new : Kept) (pid : ℕ) (access : Access) (r : Result After AllocError) → IsOk r
-    → ((a : About) → world_of a mid ≡ noted (stray_note pid (seen_of access)) (world_of a old)) → ((a : About) → a.kind ≡ kind → AreFlats a.programs flats → EventIn (headers_of flats) a mid new pid r)
-    → (a : About) → CarriedOrPast a (strays access) old new pid r
-past_behind kind flats old mid new pid access (Ok (after.Strays seen)) ok note memory a = absurd (memory (about_with kind flats) refl (some_are_flats flats))
-past_behind kind flats old mid new pid access (Ok after.GoesOn) ok note memory a = subst (λ (w : World). Adds w (world_of a new)) (note a) (adds_event kind flats mid new pid after.GoesOn memory a)
-past_behind kind flats old mid new pid access (Ok after.TurnEnds) ok note memory a = subst (λ (w : World). Adds w (world_of a new)) (note a) (adds_event kind flats mid new pid after.TurnEnds memory a)
-past_behind kind flats old mid new pid access (Ok after.LogFull) ok note memory a = subst (λ (w : World). Adds w (world_of a new)) (note a) (adds_event kind flats mid new pid after.LogFull memory a)
-past_behind kind flats old mid new pid access (Err error) ok note memory a = absurd cc
+-- up to there its note stands before what it adds
+noted_world : (pid : ℕ) (access : Access) (old : Kept) (a : About) → world_of a (with_range pid (Some access) old) ≡ noted (stray_note pid (seen_of access)) (world_of a old)
+unfolding world_of
+noted_world pid access old a = refl
 
--- out of memory the note is taken back
-pub undone : {T : Type 0} (mid new : T) (r : Result After AllocError) → IsErr r → OnErr r (new ≡ mid) → new ≡ mid
-undone mid new (Ok done) is x = absurd cc
-undone mid new (Err error) is x = x
+module _ (kind : Kind) (flats : List Values) (old new : Kept) (pid : ℕ) (access : Access) where
+  abbrev EventBehind : Result After AllocError → Type 0
+  EventBehind r = (a : About) → a.kind ≡ kind → AreFlats a.programs flats → EventIn (headers_of flats) a (with_range pid (Some access) old) new pid r
 
-pub taken_back : (pid : ℕ) (access : Access) (old mid new back : RunParts) → has_stray old.kept.notes ≡ false → old.noted ≡ has_stray old.kept.notes
-    → mid ≡ record old { kept = with_range pid (Some access) old.kept; noted = true } → new ≡ mid
-    → back ≡ record new { kept = without_newest new.kept; noted = has_stray (without_newest new.kept).notes } → back ≡ old
-taken_back pid access old mid new back quiet marked note same is =
-    is ∙ ap (λ (p : RunParts). record p { kept = without_newest p.kept; noted = has_stray (without_newest p.kept).notes }) (same ∙ note)
-    ∙ ap (λ (b : Bool). record old { noted = b }) (sym marked)
+  adds_behind : (r : After) → EventBehind (Ok r) → (a : About) → Adds (noted (stray_note pid (seen_of access)) (world_of a old)) (world_of a new)
+  adds_behind r memory a = subst (λ (w : World). Adds w (world_of a new)) (noted_world pid access old a) (adds_event kind flats (with_range pid (Some access) old) new pid r memory a)
+
+  pub past_behind : (r : Result After AllocError) → OnErr r (new ≡ old) → IfOk r (λ x. EventBehind r) → (a : About) → CarriedOrPast a (strays access) old new pid r
+  past_behind (Ok (after.Strays seen)) same memory a = absurd (memory (about_with kind flats) refl (some_are_flats flats))
+  past_behind (Ok after.GoesOn) same memory a = adds_behind after.GoesOn memory a
+  past_behind (Ok after.TurnEnds) same memory a = adds_behind after.TurnEnds memory a
+  past_behind (Ok after.LogFull) same memory a = adds_behind after.LogFull memory a
+  past_behind (Err error) same memory a = same
+
+-- ---- an event that is a closure, which tells of the parts that it is shown
+
+pub either_way : {A E : Type 0} (P : Type 0) (r : Result A E) → OnErr r P → IfOk r (λ x. P) → P
+either_way P (Ok x) failed done = done
+either_way P (Err error) failed done = failed
+
+module _ (kind : Kind) (pid : ℕ) (r : Result After AllocError) where
+  abbrev pub EventTo : RunParts → RunParts → Type 0
+  EventTo p q = (a : About) → a.kind ≡ kind → AreFlats a.programs p.programs → EventIn (headers_of p.programs) a p.kept q.kept pid r
+
+  pub event_to : (shown left p q : RunParts) → shown ≡ p → left ≡ q → EventTo shown left → EventTo p q
+  event_to shown left p q shows leaves x = subst (λ (y : RunParts). EventTo y q) shows (subst (λ (y : RunParts). EventTo shown y) leaves x)
+
+  module _ (point : PointKind) (spans : List Span) where
+    abbrev pub HitsTo : Found → Found → RunParts → RunParts → Type 0
+    HitsTo before found p q = (a : About) → a.kind ≡ kind → AreFlats a.programs p.programs
+        → EventHits (turn_hits_in point spans pid) before found (physical_of (headers_of p.programs) a p.kept) (physical_of (headers_of p.programs) (later 1 a) q.kept) r
+
+    pub hits_to : (f g before found : Found) (shown left p q : RunParts) → f ≡ before → g ≡ found → shown ≡ p → left ≡ q → HitsTo f g shown left → HitsTo before found p q
+    hits_to f g before found shown left p q f_is g_is shows leaves x =
+        subst (λ (y : RunParts). HitsTo before found y q) shows (subst (λ (y : RunParts). HitsTo before found shown y) leaves
+        (subst (λ (h : Found). HitsTo h found shown left) f_is (subst (λ (h : Found). HitsTo f h shown left) g_is x)))
+
+    -- out of memory it finds no hit
+    pub hits_kept : (before found : Found) (p q : RunParts) → HitsTo before found p q → OnErr r (found ≡ before)
+    hits_kept before found p q hits =
+        let b = about_with kind p.programs in
+        hits_on_err point spans pid before found (physical_of (headers_of p.programs) b p.kept) (physical_of (headers_of p.programs) (later 1 b) q.kept) r (hits b refl (some_are_flats p.programs))
+
+pub both_kept : {A E P C : Type 0} (r : Result A E) (p q : P) (c d : C) → OnErr r (q ≡ p) → OnErr r (d ≡ c) → OnErr r ((q ≡ p) × (d ≡ c))
+both_kept (Ok x) p q c d parts beside = tt
+both_kept (Err error) p q c d parts beside = (parts, beside)
 
 pub err_never : {A E : Type 0} (r : Result A E) (x : A) → IsErr r → r ≡ Ok x → ⊥
 err_never (Ok y) x err is = absurd cc
 err_never (Err error) x err is = absurd cc
-
-pub on_err : {A E : Type 0} (P : Type 0) (r : Result A E) → P → OnErr r P
-on_err P (Ok x) is = tt
-on_err P (Err error) is = is
-
-pub on_ok : {A E : Type 0} (P : Type 0) (r : Result A E) → P → IfOk r (λ x. P)
-on_ok P (Ok x) is = is
-on_ok P (Err error) is = tt
 
 first_quiet_of : (headers : List (List ℕ)) (a : About) (old : Kept) (pid : ℕ) (access : Access) → first_stray_in (physical_of headers a old) pid ≡ Some access → has_stray old.notes ≡ false
 unfolding physical_of world_of

@@ -234,15 +234,17 @@ fn stray<F: Fn(&[Run], u32) -> Option<usize>, G: Fn(&[Span], u32, u32) -> bool>(
     ensures holds { mode ≡ Halt → IfOk result (λ _. HoldsFiles parts.new.kept) }
     ensures unchanged { OnErr result (parts.new ≡ parts.old) }
 {
-    parts.note_stray(pid, access)?;
     match mode {
-        Mode::Halt => Ok(After::Strays(access)),
+        Mode::Halt => {
+            parts.note_stray(pid, access)?;
+            Ok(After::Strays(access))
+        }
         Mode::GoOn => {
-            let after = whole_event(parts, pid, chooser, watcher, hits);
-            if after.is_err() {
-                parts.take_back();
-            }
-            after
+            // What a closure ensures isn't inferred where it captures a struct with a lifetime.
+            let Watcher { point, spans } = *watcher;
+            parts.behind_note(pid, access, hits, |parts, hits| {
+                whole_event(parts, pid, chooser, &Watcher { point, spans }, hits)
+            })
         }
     }
 }

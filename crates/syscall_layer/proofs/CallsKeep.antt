@@ -1,5 +1,5 @@
--- A call notes no stray access, and none that was noted goes; there are as many pages; and it leaves no pipe marked.
-use Rattle.std.proofs.Common.{◌≡◌, ℕ, Bool, true, false, List, [], length, Option, Some, None, Result, Ok, Err, refl, sym, ap, subst, ◌∙◌}
+-- A call notes no stray access, and none that was noted goes; and it leaves no pipe marked.
+use Rattle.std.proofs.Common.{◌≡◌, ℕ, Bool, true, false, List, [], Option, Some, None, Result, Ok, Err, refl, sym, ap, subst, ◌∙◌}
 use Rattle.std.specs.Prelude.{OnErr, ⊤}
 use Rattle.std.specs.declared.alloc.AllocError.{AllocError}
 use Rattle.bflt_format.specs.Values.{Values}
@@ -10,11 +10,10 @@ use Rattle.rv32im_step.specs.Meaning.{call, trap}
 use Rattle.mmap_rules.specs.Space.{Space}
 use Rattle.vfork_exec.specs.Keyed.{find}
 use Rattle.machine_world.specs.World.{Process, LiveSpace, Rest, World, pid_of, id_of}
-use Rattle.machine_world.specs.Asks.{Ask}
+use Rattle.machine_world.specs.Asks.{Ask, Row, replies, waits}
 use Rattle.machine_world.specs.Rows.{row}
 use Rattle.machine_world.specs.Event.{Outcome, went, strays, full, idle, ended, ask_of, answer, settled, trapped, in_space, by_process, at_process, called, died}
-use Rattle.machine_world.proofs.Kept.{Answers, kept_outside}
-use Rattle.machine_world.proofs.ByRows.{by_rows}
+use Rattle.machine_world.proofs.Kept.{Answers}
 use Rattle.machine_world.proofs.ByEvents.{Answered as CallHas, Happened, Keeps, by_effect}
 use Rattle.physical_turns.specs.Physical.{Physical, After, after, no_room, nobody, has_stray, settled_in, answer_in, called_in}
 use Rattle.physical_turns.specs.Physical as physical
@@ -29,28 +28,30 @@ use Rattle.kept_parts.specs.Stands.{About, world_of}
 use Rattle.kept_parts.specs.Serves.{Answered, Serves, Died, Dies}
 use Rattle.kept_parts.specs.InMemory.{physical_of, GoesIn, InReach}
 
--- whether a stray access was noted, and how many pages there are
-abbrev pub Same : Bool → ℕ → World → Type 0
-Same strayed pages w = (has_stray w.notes ≡ strayed) × (w.rest.pages ≡ pages)
+-- whether a stray access was noted
+abbrev Same : Bool → World → Type 0
+Same strayed w = has_stray w.notes ≡ strayed
 
-abbrev pub Has : ℕ → Rest → Type 0
-Has pages rest = rest.pages ≡ pages
+-- of what a call does beside that nothing is asked
+abbrev Anything : Rest → Type 0
+Anything rest = Unit {0}
 
-pub rows_keep : (pages : ℕ) (a : Ask) → Has pages a.rest → Answers (Has pages) (row a)
-rows_keep pages a h = by_rows (Has pages) a (kept_outside (λ programs n kind. n ≡ pages) a h) h
+any_row : (r : Row) → Answers Anything r
+any_row (replies reply) = tt
+any_row (waits state) = tt
 
-module _ (strayed : Bool) (pages : ℕ) (w : World) (h : Same strayed pages w) where
-  call_keeps : (a : Ask) → CallHas (λ now t. Same strayed pages now) (Has pages) w a
+module _ (strayed : Bool) (w : World) (h : Same strayed w) where
+  call_keeps : (a : Ask) → CallHas (λ now t. Same strayed now) Anything w a
   unfolding ended
   call_keeps a = record {
-    reply = λ ended r m same room. (h.0, same);
+    reply = λ ended r m same room. h;
     wait = λ state. h;
     exit = λ room. h;
     fork = λ few room. h;
     load = λ f s page is fits room. h;
   }
 
-  pub act_keeps : (p : Process) (s : Space) → Happened (λ now t. Same strayed pages now) (Has pages) w p s
+  pub act_keeps : (p : Process) (s : Space) → Happened (λ now t. Same strayed now) Anything w p s
   unfolding ended
   act_keeps p s = record {
     step = λ regs bytes. h;
@@ -60,59 +61,58 @@ module _ (strayed : Bool) (pages : ℕ) (w : World) (h : Same strayed pages w) w
 
   -- ---- in the world of private spaces
 
-  in_home : (p : Process) (o : Option LiveSpace) → Keeps (Same strayed pages) (in_space (λ q s. settled (answer w q s)) p o)
+  in_home : (p : Process) (o : Option LiveSpace) → Keeps (Same strayed) (in_space (λ q s. settled (answer w q s)) p o)
   in_home p None = tt
   in_home p (Some s) =
-      by_effect (λ now t. Same strayed pages now) (Has pages) (λ now t kept. kept) w h.1 p s.space (act_keeps p s.space) (λ bytes. rows_keep pages (ask_of w p s.space bytes) h.1) call
+      by_effect (λ now t. Same strayed now) Anything (λ now t kept. kept) w tt p s.space (act_keeps p s.space) (λ bytes. any_row (row (ask_of w p s.space bytes))) call
 
-  in_world : (o : Option Process) → Keeps (Same strayed pages) (by_process w.spaces (λ q s. settled (answer w q s)) o)
+  in_world : (o : Option Process) → Keeps (Same strayed) (by_process w.spaces (λ q s. settled (answer w q s)) o)
   in_world None = tt
   in_world (Some p) = in_home p (find id_of p.space w.spaces)
 
-  pub called_keeps : (pid : ℕ) → Keeps (Same strayed pages) (called w pid)
+  pub called_keeps : (pid : ℕ) → Keeps (Same strayed) (called w pid)
   unfolding called at_process
   called_keeps pid = in_world (find pid_of pid w.procs)
 
   -- a signal
-  died_home : (signal : ℕ) (p : Process) (o : Option LiveSpace) → Keeps (Same strayed pages) (in_space (λ q s. settled (trapped w q signal)) p o)
+  died_home : (signal : ℕ) (p : Process) (o : Option LiveSpace) → Keeps (Same strayed) (in_space (λ q s. settled (trapped w q signal)) p o)
   died_home signal p None = tt
   died_home signal p (Some s) =
-      by_effect (λ now t. Same strayed pages now) (Has pages) (λ now t kept. kept) w h.1 p s.space (act_keeps p s.space) (λ bytes. rows_keep pages (ask_of w p s.space bytes) h.1) (trap signal)
+      by_effect (λ now t. Same strayed now) Anything (λ now t kept. kept) w tt p s.space (act_keeps p s.space) (λ bytes. any_row (row (ask_of w p s.space bytes))) (trap signal)
 
-  died_world : (signal : ℕ) (o : Option Process) → Keeps (Same strayed pages) (by_process w.spaces (λ q s. settled (trapped w q signal)) o)
+  died_world : (signal : ℕ) (o : Option Process) → Keeps (Same strayed) (by_process w.spaces (λ q s. settled (trapped w q signal)) o)
   died_world signal None = tt
   died_world signal (Some p) = died_home signal p (find id_of p.space w.spaces)
 
-  died_keeps : (pid signal : ℕ) → Keeps (Same strayed pages) (died w pid signal)
+  died_keeps : (pid signal : ℕ) → Keeps (Same strayed) (died w pid signal)
   unfolding died at_process
   died_keeps pid signal = died_world signal (find pid_of pid w.procs)
 
 -- ---- over one memory, once a stray access was noted
 
-module _ (pages : ℕ) where
-  steady : Steady (Same true pages) (λ w. Has pages)
-  steady = record {
-    wakes = λ now h. h;
-    shows = λ memory now h. h;
-    strays = λ pid seen now h. (refl, h.1);
-    reaps = λ ended now h. h;
-    acts = λ w q s h. act_keeps true pages w h q s;
-    rests = λ w h. h.1;
-    rows = λ w q s bytes h. rows_keep pages (ask_of w q s bytes) h.1;
-  }
+steady : Steady (Same true) (λ w. Anything)
+steady = record {
+  wakes = λ now h. h;
+  shows = λ memory now h. h;
+  strays = λ pid seen now h. refl;
+  reaps = λ ended now h. h;
+  acts = λ w q s h. act_keeps true w h q s;
+  rests = λ w h. tt;
+  rows = λ w q s bytes h. any_row (row (ask_of w q s bytes));
+}
 
-  module _ (p : Physical) (h : Same true pages p.world) where
-    in_home_of : (q : Process) (o : Option LiveSpace) → AfterHas (Same true pages) (physical.in_space_in (λ r s. settled_in (answer_in p r s)) q o)
-    in_home_of q None = tt
-    in_home_of q (Some s) = by_effect_in (Same true pages) (λ w. Has pages) steady p q s.space call h
+module _ (p : Physical) (h : Same true p.world) where
+  in_home_of : (q : Process) (o : Option LiveSpace) → AfterHas (Same true) (physical.in_space_in (λ r s. settled_in (answer_in p r s)) q o)
+  in_home_of q None = tt
+  in_home_of q (Some s) = by_effect_in (Same true) (λ w. Anything) steady p q s.space call h
 
-    in_memory_of : (o : Option Process) → AfterHas (Same true pages) (physical.by_process_in p.world.spaces (λ r s. settled_in (answer_in p r s)) o)
-    in_memory_of None = tt
-    in_memory_of (Some q) = in_home_of q (find id_of q.space p.world.spaces)
+  in_memory_of : (o : Option Process) → AfterHas (Same true) (physical.by_process_in p.world.spaces (λ r s. settled_in (answer_in p r s)) o)
+  in_memory_of None = tt
+  in_memory_of (Some q) = in_home_of q (find id_of q.space p.world.spaces)
 
-    called_in_keeps : (pid : ℕ) → AfterHas (Same true pages) (called_in p pid)
-    unfolding called_in physical.at_process_in
-    called_in_keeps pid = in_memory_of (find pid_of pid p.world.procs)
+  called_in_keeps : (pid : ℕ) → AfterHas (Same true) (called_in p pid)
+  unfolding called_in physical.at_process_in
+  called_in_keeps pid = in_memory_of (find pid_of pid p.world.procs)
 
 -- ---- marks of pipes
 
@@ -167,25 +167,23 @@ module _ (p : Physical) where
 
 pub record Remains (old new : Kept) : Type 0 where
   pub notes : has_stray new.notes ≡ has_stray old.notes
-  pub pages : length new.regions ≡ length old.regions
   pub marks : old.files.changed ≡ [] → new.files.changed ≡ []
 
 pub remains_same : (old new : Kept) → new ≡ old → Remains old new
-remains_same old new same = record { notes = ap (λ (k : Kept). has_stray k.notes) same; pages = ap (λ (k : Kept). length k.regions) same; marks = λ none. ap (λ (k : Kept). k.files.changed) same ∙ none }
+remains_same old new same = record { notes = ap (λ (k : Kept). has_stray k.notes) same; marks = λ none. ap (λ (k : Kept). k.files.changed) same ∙ none }
 
 module _ (headers : List (List ℕ)) (a : About) (old new : Kept) (pid : ℕ) where
   abbrev HasSame : World → Type 0
-  HasSame = Same (has_stray old.notes) (length old.regions)
+  HasSame = Same (has_stray old.notes)
 
   by_world : (b : About) (now : World) → now ≡ world_of b new → HasSame now → Unmarked now → Remains old new
   unfolding world_of
-  by_world b now is h none = let same = subst HasSame is h in record { notes = same.0; pages = same.1; marks = λ was. subst Unmarked is none }
+  by_world b now is h none = record { notes = subst HasSame is h; marks = λ was. subst Unmarked is none }
 
   by_memory : (b : About) (now : Physical) → now ≡ physical_of headers b new → HasSame now.world → Unmarked now.world → Remains old new
   unfolding physical_of world_of
   by_memory b now is h none =
-      let same = subst (λ (p : Physical). HasSame p.world) is h in
-      record { notes = same.0; pages = same.1; marks = λ was. subst (λ (p : Physical). Unmarked p.world) is none }
+      record { notes = subst (λ (p : Physical). HasSame p.world) is h; marks = λ was. subst (λ (p : Physical). Unmarked p.world) is none }
 
   answered_remains : (o : Outcome) → Keeps HasSame o → Keeps Unmarked o → (s : Served) → Answered a o old new pid s → Remains old new
   answered_remains (went now t) kept none s x = by_world _ now x.0 kept none
@@ -219,11 +217,11 @@ module _ (headers : List (List ℕ)) (a : About) (old new : Kept) (pid : ℕ) wh
 
   of_world : HasSame (world_of a old)
   unfolding world_of
-  of_world = (refl, refl)
+  of_world = refl
 
-  of_memory : has_stray old.notes ≡ true → Same true (length old.regions) (physical_of headers a old).world
+  of_memory : has_stray old.notes ≡ true → Same true (physical_of headers a old).world
   unfolding physical_of world_of
-  of_memory noted = (noted, refl)
+  of_memory noted = noted
 
   -- within reach, which is all of memory only behind a noted stray access
   pub call_remains : (reach : Reach) → (reach ≡ Whole → has_stray old.notes ≡ true) → (r : Result Served AllocError)
@@ -238,10 +236,10 @@ module _ (headers : List (List ℕ)) (a : About) (old new : Kept) (pid : ℕ) wh
       own Whole is quiet = absurd (let e : true ≡ false = sym (strayed is) ∙ quiet in cc)
 
       by_notes : (b : Bool) → has_stray old.notes ≡ b → Remains old new
-      by_notes false is = answered_remains (called (world_of a old) pid) (called_keeps (has_stray old.notes) (length old.regions) (world_of a old) of_world pid) (called_unmarked (world_of a old) pid) s (serves (own reach refl is) is)
+      by_notes false is = answered_remains (called (world_of a old) pid) (called_keeps (has_stray old.notes) (world_of a old) of_world pid) (called_unmarked (world_of a old) pid) s (serves (own reach refl is) is)
       by_notes true is =
-          let kept = called_in_keeps (length old.regions) (physical_of headers a old) (of_memory is) pid in
-          reach_remains reach (called_in (physical_of headers a old) pid) (subst (λ (b : Bool). AfterHas (Same b (length old.regions)) (called_in (physical_of headers a old) pid)) (sym is) kept) (called_in_unmarked (physical_of headers a old) pid) s
+          let kept = called_in_keeps (physical_of headers a old) (of_memory is) pid in
+          reach_remains reach (called_in (physical_of headers a old) pid) (subst (λ (b : Bool). AfterHas (Same b) (called_in (physical_of headers a old) pid)) (sym is) kept) (called_in_unmarked (physical_of headers a old) pid) s
           (λ access is_stray. same access (ap Ok is_stray)) x
 
   -- an end by a signal
@@ -252,14 +250,14 @@ module _ (headers : List (List ℕ)) (a : About) (old new : Kept) (pid : ℕ) wh
   died_remains full kept x = absurd x
   died_remains idle kept x = absurd x
 
-  pub signal_remains : (signal : ℕ) → Died a (died (world_of a old) pid signal) new pid → (has_stray new.notes ≡ has_stray old.notes) × (length new.regions ≡ length old.regions)
+  pub signal_remains : (signal : ℕ) → Died a (died (world_of a old) pid signal) new pid → has_stray new.notes ≡ has_stray old.notes
   unfolding world_of
-  signal_remains signal x = died_remains (died (world_of a old) pid signal) (died_keeps (has_stray old.notes) (length old.regions) (world_of a old) of_world pid signal) x
+  signal_remains signal x = died_remains (died (world_of a old) pid signal) (died_keeps (has_stray old.notes) (world_of a old) of_world pid signal) x
 
 pub signal_same : (a : About) (old new : Kept) (pid signal : ℕ) (r : Result ⊤ AllocError) → Dies a (died (world_of a old) pid signal) old new pid r
-    → (has_stray new.notes ≡ has_stray old.notes) × (length new.regions ≡ length old.regions)
+    → has_stray new.notes ≡ has_stray old.notes
 signal_same a old new pid signal (Ok done) x = signal_remains [] a old new pid signal x
-signal_same a old new pid signal (Err error) x = (ap (λ (k : Kept). has_stray k.notes) x, ap (λ (k : Kept). length k.regions) x)
+signal_same a old new pid signal (Err error) x = ap (λ (k : Kept). has_stray k.notes) x
 
 abbrev pub parts_with : List Values → Mode → Bool → Kept → RunParts
 parts_with programs mode noted k = record { kept = k; programs = programs; mode = mode; noted = noted }

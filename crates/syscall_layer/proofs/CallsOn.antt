@@ -1,10 +1,8 @@
 -- A call of a run that goes on, by the call within reach.
 use Rattle.std.proofs.Common.{◌≡◌, ◌≢◌, ℕ, Bool, true, false, List, Option, Some, None, Ok, refl, sym, ap, subst, ◌∙◌}
-use Rattle.std.specs.Prelude.{if◌then◌else◌, Result, Err, IsOk, IfOk, OnErr}
+use Rattle.std.specs.Prelude.{if◌then◌else◌, Result, Err, IfOk, OnErr}
 use Rattle.std.specs.declared.alloc.AllocError.{AllocError}
 use Rattle.rv32im_step.specs.declared.access.Access.{Access}
-use Rattle.region_watch.specs.declared.mode.Mode.{Mode}
-use Rattle.region_watch.specs.declared.mode.Mode.TheVariants.{Halt, GoOn}
 use Rattle.machine_world.specs.Event.{Outcome, went, strays, full, idle, called, stray_in}
 use Rattle.physical_turns.specs.Physical.{Physical, After, after, no_room, nobody, has_stray, with_stray, called_in}
 use Rattle.kept_parts.specs.declared.served.Served.{Served}
@@ -15,9 +13,12 @@ use Rattle.kept_parts.specs.Kept.{Kept}
 use Rattle.kept_parts.specs.Reach.{is_whole}
 use Rattle.kept_parts.specs.Stands.{About, world_of}
 use Rattle.kept_parts.specs.Serves.{Answered}
-use Rattle.syscall_layer.specs.ByMode.{ServesFirst}
+use Rattle.syscall_layer.specs.ByMode.{ServesFirst, GoOnServes}
+use Rattle.syscall_layer.specs.Parts.{RunParts, noted_by}
+use Rattle.page_runs.specs.declared.place.Kind.{Kind}
+use Rattle.kept_parts.specs.Flats.{ForRuns}
 use Rattle.std.specs.Result.{IsErr}
-use Rattle.kept_parts.specs.InMemory.{physical_of, GoesIn, InReach, ServesOn, first_range, called_on, with_range, without_newest}
+use Rattle.kept_parts.specs.InMemory.{headers_of, physical_of, GoesIn, InReach, ServesOn, first_range, called_on, with_range}
 
 abbrev IsStray : Served → Type 0
 IsStray (served.Stray access) = Unit {0}
@@ -35,21 +36,10 @@ not_stray served.Waits other is = is
 not_stray served.Ended other is = is
 not_stray served.LogFull other is = is
 
--- what a call may read and write is all of memory only in a run that goes on, behind a noted stray access
-pub strayed_within : (mode : Mode) (reach within : Reach) (strayed : Bool) → (mode ≡ Halt → within ≡ Own) → (mode ≡ GoOn → within ≡ reach) → strayed ≡ is_whole reach → within ≡ Whole → strayed ≡ true
-strayed_within Halt reach within strayed own on is whole = absurd (let e : Own ≡ Whole = sym (own refl) ∙ whole in cc)
-strayed_within GoOn reach within strayed own on is whole = is ∙ ap is_whole (sym (on refl) ∙ whole)
-
 -- within its own bytes none was noted
 own_reach : (reach : Reach) → is_whole reach ≡ false → reach ≡ Own
 own_reach Own is = refl
 own_reach Whole is = absurd (let e : true ≡ false = is in cc)
-
--- ---- the note of its range
-
--- without it the parts are as they were
-pub without_range : (pid : ℕ) (access : Access) (k mid : Kept) → mid ≡ with_range pid (Some access) k → without_newest mid ≡ k
-without_range pid access k mid is = ap without_newest is
 
 module _ (headers : List (List ℕ)) (a : About) (old : Kept) (pid : ℕ) where
   abbrev there : Physical
@@ -126,26 +116,18 @@ module _ (headers : List (List ℕ)) (a : About) (old : Kept) (pid : ℕ) where
 
   -- ---- one strays
 
-  -- where it was noted
+  -- where it was noted, or out of memory
   first_noted : (o : Outcome) (access : Access) (new : Kept) (s : Served) → stray_in o ≡ Some access → has_stray new.notes ≡ true → ServesFirst a o old new pid (Ok s)
   first_noted (strays seen) access new s is was = was
   first_noted (went now t) access new s is was = absurd cc
   first_noted full access new s is was = absurd cc
   first_noted idle access new s is was = absurd cc
 
-  pub strays_first : (access : Access) (new : Kept) (s : Served) → stray_in outcome ≡ Some access → has_stray new.notes ≡ true → ServesFirst a outcome old new pid (Ok s)
-  strays_first access new s is was = first_noted outcome access new s is was
-
-  -- out of memory
   none_first_of : (o : Outcome) (new : Kept) (error : AllocError) → new ≡ old → ServesFirst a o old new pid (Err error)
   none_first_of (went now t) new error same = same
   none_first_of (strays access) new error same = same
   none_first_of full new error same = same
   none_first_of idle new error same = same
-
-  pub fails_first : (new : Kept) (r : Result Served AllocError) → IsErr r → new ≡ old → ServesFirst a outcome old new pid r
-  fails_first new (Ok s) is same = absurd cc
-  fails_first new (Err error) is same = none_first_of outcome new error same
 
   never_strays : (o : After) (new : Kept) (access : Access) → GoesIn headers a o old new pid (served.Stray access) → ⊥
   never_strays (after p over) new access x = absurd x.1
@@ -179,21 +161,43 @@ module _ (headers : List (List ℕ)) (a : About) (old : Kept) (pid : ℕ) where
     pub first_is : first_range there pid ≡ Some access
     first_is = range_is false quiet ∙ is
 
-    pub serves_noted : (mid new : Kept) (s : Served) → mid ≡ with_range pid (Some access) old → InReach Whole headers a (called_in (physical_of headers a mid) pid) mid new pid (Ok s)
-        → ServesOn headers a old new pid (Ok s)
-    serves_noted mid new s same x =
-        as_found (Some access) first_is new s
-        (subst (λ (p : Physical). GoesIn headers a (called_in p pid) (with_range pid (Some access) old) new pid s) (noted_in access)
-        (subst (λ (k : Kept). GoesIn headers a (called_in (physical_of headers a k) pid) k new pid s) same x))
+    abbrev behind : Kept
+    behind = with_range pid (Some access) old
 
-    pub notes_noted : (mid new : Kept) → mid ≡ old → new.notes ≡ (with_range pid (Some access) mid).notes → new.notes ≡ (with_range pid (first_range there pid) old).notes
-    notes_noted mid new same is =
-        is ∙ ap (λ (k : Kept). (with_range pid (Some access) k).notes) same ∙ ap (λ (found : Option Access). (with_range pid found old).notes) (sym first_is)
+    serves_noted : (new : Kept) (s : Served) → InReach Whole headers a (called_in (physical_of headers a behind) pid) behind new pid (Ok s) → ServesOn headers a old new pid (Ok s)
+    serves_noted new s x = as_found (Some access) first_is new s (subst (λ (p : Physical). GoesIn headers a (called_in p pid) behind new pid s) (noted_in access) x)
 
-    pub noted_result : (mid new : Kept) → mid ≡ with_range pid (Some access) old → (r : Result Served AllocError) → IsOk r → InReach Whole headers a (called_in (physical_of headers a mid) pid) mid new pid r
-        → ServesOn headers a old new pid r
-    noted_result mid new same (Ok s) ok x = serves_noted mid new s same x
-    noted_result mid new same (Err error) ok x = absurd cc
+    notes_behind : (new : Kept) → new.notes ≡ behind.notes → new.notes ≡ (with_range pid (first_range there pid) old).notes
+    notes_behind new same = same ∙ ap (λ (found : Option Access). (with_range pid found old).notes) (sym first_is)
+
+-- ---- the call behind that note, by what it tells of the parts that it is shown
+
+pub record LeavesBehind (kind : Kind) (pid : ℕ) (p q : RunParts) (r : Result Served AllocError) : Type 0 where
+  pub memory : ForRuns kind p.programs (λ a. InReach Whole (headers_of p.programs) a (called_in (physical_of (headers_of p.programs) a p.kept) pid) p.kept q.kept pid r)
+  pub unnoted : r ≡ Ok served.Waits → q.kept.notes ≡ p.kept.notes
+  pub strayed : has_stray q.kept.notes ≡ true
+
+pub leaves_behind : (kind : Kind) (pid : ℕ) (r : Result Served AllocError) (shown left p q : RunParts) → shown ≡ p → left ≡ q → LeavesBehind kind pid shown left r → LeavesBehind kind pid p q r
+leaves_behind kind pid r shown left p q shows leaves x =
+    subst (λ (y : RunParts). LeavesBehind kind pid y q r) shows (subst (λ (y : RunParts). LeavesBehind kind pid shown y r) leaves x)
+
+module _ (kind : Kind) (pid : ℕ) (access : Access) (old new : RunParts) (first : ForRuns kind old.programs (λ a. IsFirst (headers_of old.programs) a old.kept pid access)) where
+  pub goes_on_behind : (r : Result Served AllocError) → OnErr r (new ≡ old) → IfOk r (λ done. LeavesBehind kind pid (noted_by pid access old) new r) → GoOnServes kind pid old new r
+  goes_on_behind (Ok s) same left = record {
+    memory = λ a so are.
+        let at = first a so are in
+        serves_noted (headers_of old.programs) a old.kept pid access at.quiet at.is new.kept s (left.memory a so are);
+    unnoted = λ is a so are.
+        let at = first a so are in
+        notes_behind (headers_of old.programs) a old.kept pid access at.quiet at.is new.kept (left.unnoted is);
+    first = λ quiet a so are.
+        first_noted (headers_of old.programs) a old.kept pid (called (world_of a old.kept) pid) access new.kept s (first a so are).is left.strayed;
+  }
+  goes_on_behind (Err error) same left = record {
+    memory = λ a so are. ap (λ (p : RunParts). p.kept) same;
+    unnoted = λ is. absurd cc;
+    first = λ quiet a so are. none_first_of (headers_of old.programs) a old.kept pid (called (world_of a old.kept) pid) new.kept error (ap (λ (p : RunParts). p.kept) same);
+  }
 
 -- ---- out of memory
 
@@ -201,6 +205,10 @@ pub unchanged_by : (headers : List (List ℕ)) (a : About) (o : After) (old new 
 unchanged_by headers a o old new pid reach (Ok s) x = tt
 unchanged_by headers a o old new pid Own (Err error) x = x
 unchanged_by headers a o old new pid Whole (Err error) x = x
+
+pub of_err : {A E : Type 0} (P : Type 0) (r : Result A E) → IsErr r → OnErr r P → P
+of_err P (Ok x) is p = absurd cc
+of_err P (Err error) is p = p
 
 pub on_err : {A E : Type 0} (P : Type 0) (r : Result A E) → P → OnErr r P
 on_err P (Ok x) is = tt

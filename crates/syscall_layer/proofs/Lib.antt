@@ -1,5 +1,5 @@
 -- Halted     where a run has ended that ends at its first stray access
--- CallsKeep  a call notes no stray access, and leaves as many pages and no pipe marked
+-- CallsKeep  a call notes no stray access, and leaves no pipe marked
 -- ToldMemory  what a waitid leaves of the one memory
 -- OutputRanges  the ranges that a call gives are ranges that an access can have
 -- CallRows  the row of each call, and the effect that the code gives it
@@ -9,7 +9,7 @@
 -- CallsOn    a call of a run that goes on
 -- CallEvents  it is an event of the run
 -- Samples    calls of such a run, and copies that hold their file or don't, computed from the definitions
-pub mod CallsKeep
+mod CallsKeep
 pub mod OutputRanges
 pub mod CallRows
 mod ByClass

@@ -1,11 +1,13 @@
 -- The parts of a run.
-use Rattle.std.specs.Prelude.{◌≡◌, Bool, List, [], reverse, Option, None}
+use Rattle.std.specs.Prelude.{◌≡◌, ℕ, Bool, true, List, [], reverse, Option, Some, None}
 use Rattle.bflt_format.specs.Values.{Values}
+use Rattle.rv32im_step.specs.declared.access.Access.{Access}
 use Rattle.call_log.specs.declared.how.Seen.{Seen}
 use Rattle.call_log.specs.Notes.{Note}
 use Rattle.physical_turns.specs.Physical.{has_stray}
 use Rattle.region_watch.specs.declared.mode.Mode.{Mode}
 use Rattle.region_watch.specs.declared.mode.Mode.TheVariants.{Halt, GoOn}
+use Rattle.kept_parts.specs.InMemory.{with_range}
 use Rattle.kept_parts.specs.Kept.{Kept}
 use Rattle.kept_parts.specs.Noted.{first_noted}
 
@@ -16,6 +18,10 @@ pub record RunParts : Type 0 where
   pub programs : List Values
   pub mode : Mode
   pub noted : Bool
+
+-- the parts behind the note of a stray access of a process
+abbrev pub noted_by : ℕ → Access → RunParts → RunParts
+noted_by pid access p = record p { kept = with_range pid (Some access) p.kept; noted = true }
 
 -- a stray access is marked as noted exactly where the notes have one, and no pipe is marked: who waits on one that changed was let go on
 pub record AreTied (marked : Bool) (k : Kept) : Type 0 where

@@ -16,7 +16,7 @@ ghost use Rattle.mem_files.specs.Inodes.{bytes_of};
 ghost use Rattle.machine_world.specs.Asks.{Reply, replies};
 ghost use Rattle.machine_world.specs.MapCalls.{mapped};
 ghost use Rattle.machine_world.specs.Rows.{row};
-ghost use Rattle.machine_world.specs.Event.{room_for, called, classed, answered, exited, waited, settled, stray_in};
+ghost use Rattle.machine_world.specs.Event.{room_for, called, classed, answered, exited, waited, settled};
 ghost use Rattle.vfork_exec.specs.declared.family.State.TheVariants.{OnPipe};
 ghost use Rattle.file_calls.specs.Calls.{IsChange, IsOutput, DoesNotWait, got_of};
 ghost use Rattle.file_calls.specs.Outcomes.{GivesRow, CanTake, HasEnds};
@@ -28,7 +28,7 @@ ghost use Rattle.region_watch.specs.declared.mode.Mode.TheVariants.{Halt, GoOn};
 ghost use Rattle.kept_parts.specs.declared.reach.Reach.TheVariants.{Own, Whole};
 ghost use Rattle.kept_parts.specs.declared.served.Served.TheVariants.{Replied, TurnEnds, Waits, Stray};
 ghost use Rattle.kept_parts.specs.Copies.{HoldsFiles, StillHolds};
-ghost use Rattle.kept_parts.specs.InMemory.{headers_of, physical_of, ServesIn, InReach, ServesOn, first_range, with_range};
+ghost use Rattle.kept_parts.specs.InMemory.{headers_of, physical_of, ServesIn, InReach};
 ghost use Rattle.kept_parts.specs.Reach.{writable};
 ghost use Rattle.kept_parts.specs.Serves.{Answered, Serves, Tells, WaitsAt, went_by};
 ghost use Rattle.mmap_rules.specs.Copies.{IsKnown};
@@ -451,7 +451,6 @@ fn serve_within<F: Fn(&[Run], u32) -> Option<usize>>(
     ensures waits { result ≡ Ok Waits → parts.old.files.changed ≡ [] → WaitsAt parts.new.procs pid true }
     ensures unnoted { result ≡ Ok Waits → parts.new.notes ≡ parts.old.notes }
     ensures strayed { has_stray parts.new.notes ≡ has_stray parts.old.notes }
-    ensures pages { length parts.new.regions ≡ length parts.old.regions }
     ensures marks { parts.old.files.changed ≡ [] → parts.new.files.changed ≡ [] }
 {
     match call_of(parts, pid, reach) {
@@ -475,33 +474,27 @@ fn serve_within<F: Fn(&[Run], u32) -> Option<usize>>(
     }
 }
 
-/// Carries out a call with a range that strays, the run's first: it is noted, and the call reaches all of memory. Out of memory
-/// there is no such note either.
-fn serve_noted<F: Fn(&[Run], u32) -> Option<usize>>(
-    parts: &mut KeptParts,
+/// Carries out the system call that a process stands at over all of memory, behind the note of a stray access.
+fn serve_whole<F: Fn(&[Run], u32) -> Option<usize>>(
+    parts: &mut Parts,
     pid: u32,
-    access: Access,
-    programs: &[Flat],
     chooser: &Chooser<F>,
 ) -> Result<Served, AllocError>
     requires chooser { IsChooser F.pre F.post chooser.now }
-    requires ready { CanRun parts.old.procs pid }
-    ensures memory { has_stray parts.old.notes ≡ false → ForRuns (kind_of chooser.now) programs.now (λ a. stray_in (called (world_of a parts.old) pid) ≡ Some access →
-        ServesOn (headers_of programs.now) a parts.old parts.new pid result) }
+    requires ready { CanRun parts.old.kept.procs pid }
+    requires strayed { has_stray parts.old.kept.notes ≡ true }
+    ensures programs { parts.new.programs ≡ parts.old.programs }
+    ensures mode { parts.new.mode ≡ parts.old.mode }
+    ensures noted { parts.new.noted ≡ has_stray parts.new.kept.notes }
+    ensures strayed { has_stray parts.new.kept.notes ≡ true }
+    ensures memory { ForRuns (kind_of chooser.now) parts.old.programs (λ a.
+        InReach Whole (headers_of parts.old.programs) a (called_in (physical_of (headers_of parts.old.programs) a parts.old.kept) pid) parts.old.kept parts.new.kept pid result) }
     ensures unchanged { OnErr result (parts.new ≡ parts.old) }
-    ensures yields { result ≡ Ok TurnEnds → WaitsAt parts.new.procs pid false }
-    ensures waits { result ≡ Ok Waits → parts.old.files.changed ≡ [] → WaitsAt parts.new.procs pid true }
-    ensures unnoted { result ≡ Ok Waits → parts.new.notes ≡ (with_range pid (Some access) parts.old).notes }
-    ensures strayed { IfOk result (λ _. has_stray parts.new.notes ≡ true) }
-    ensures pages { IfOk result (λ _. length parts.new.regions ≡ length parts.old.regions) }
-    ensures marks { IfOk result (λ _. parts.old.files.changed ≡ [] → parts.new.files.changed ≡ []) }
+    ensures yields { result ≡ Ok TurnEnds → WaitsAt parts.new.kept.procs pid false }
+    ensures waits { result ≡ Ok Waits → WaitsAt parts.new.kept.procs pid true }
+    ensures unnoted { result ≡ Ok Waits → parts.new.kept.notes ≡ parts.old.kept.notes }
 {
-    parts.note_stray(pid, access)?;
-    let served = serve_within(parts, pid, programs, chooser, Reach::Whole);
-    if served.is_err() {
-        parts.take_back();
-    }
-    served
+    serve_within(&mut parts.kept, pid, &parts.programs, chooser, Reach::Whole)
 }
 
 /// What a call may read and write. In a run that ends at its first stray access that is its process's own bytes, whatever was noted;
@@ -543,10 +536,8 @@ pub fn serve<F: Fn(&[Run], u32) -> Option<usize>>(
     };
     match parts.mode {
         Mode::Halt => Ok(served),
-        Mode::GoOn => {
-            let served = serve_noted(&mut parts.kept, pid, access, &parts.programs, chooser)?;
-            parts.noted = true;
-            Ok(served)
-        }
+        Mode::GoOn => parts.behind_note(pid, access, &mut (), |parts, _| {
+            serve_whole(parts, pid, chooser)
+        }),
     }
 }

@@ -1,16 +1,17 @@
 //! The parts of a run.
 
-ghost use Rattle.std.specs.Prelude.{◌≡◌, ℕ, true, List, Some, IfOk, OnErr, option_map};
+ghost use Rattle.std.specs.Prelude.{◌≡◌, ℕ, List, IfOk, OnErr, option_map};
 ghost use Rattle.vfork_exec.specs.Procs.{CanRun};
 ghost use Rattle.machine_world.specs.Event.{died};
 ghost use Rattle.machine_world.specs.Turns.{seen_of};
 ghost use Rattle.physical_turns.specs.Physical.{has_stray, died_in};
 ghost use Rattle.kept_parts.specs.Awake.{awake_in};
-ghost use Rattle.kept_parts.specs.InMemory.{DiesIn, physical_of, with_range, without_newest};
+ghost use Rattle.kept_parts.specs.InMemory.{DiesIn, physical_of, without_newest};
 ghost use Rattle.kept_parts.specs.Regular.{IsRegular};
 ghost use Rattle.kept_parts.specs.Serves.{Dies, NotesStray};
 ghost use Rattle.kept_parts.specs.Stands.{About, world_of};
-ghost use Rattle.syscall_layer.specs.Parts.{halted_at};
+ghost use Rattle.syscall_layer.specs.Events.{TakesParts, GivesParts, KeepsParts};
+ghost use Rattle.syscall_layer.specs.Parts.{halted_at, noted_by};
 ghost use Rattle.kept_parts.specs.Reach.{is_whole, reach_of};
 
 use bflt_format::Flat;
@@ -88,7 +89,7 @@ impl Parts {
     /// Notes the access of a process that strays.
     pub fn note_stray(&mut self, pid: u32, access: Access) -> Result<(), AllocError>
         ensures strays { NotesStray pid access self.old.kept self.new.kept result }
-        ensures kept { IfOk result (λ _. self.new ≡ record self.old { kept = with_range pid (Some access) self.old.kept; noted = true }) }
+        ensures kept { IfOk result (λ _. self.new ≡ noted_by pid access self.old) }
         ensures sound { IfOk result (λ _. IsRegular (without_newest self.new.kept)) }
         ensures unchanged { OnErr result (self.new ≡ self.old) }
     {
@@ -97,13 +98,29 @@ impl Parts {
         Ok(())
     }
 
-    /// Takes back the newest note, where the parts are sound without it, and looks through the others for a stray access.
-    pub fn take_back(&mut self)
-        requires sound { IsRegular (without_newest self.old.kept) }
-        ensures { self.new ≡ record self.old { kept = without_newest self.old.kept; noted = has_stray (without_newest self.old.kept).notes } }
+    /// Carries out an event behind the note of its stray access; it may change a value beside the parts too. Out of memory, in which it
+    /// changes neither, there is no such note either.
+    pub fn behind_note<T, C, F: FnOnce(&mut Parts, &mut C) -> Result<T, AllocError>>(
+        &mut self,
+        pid: u32,
+        access: Access,
+        beside: &mut C,
+        event: F,
+    ) -> Result<T, AllocError>
+        requires takes { TakesParts F.FnOnce event (noted_by pid access self.old) beside.old }
+        requires keeps { KeepsParts F.FnOnce event (noted_by pid access self.old) beside.old }
+        ensures gives { IfOk result (λ _. GivesParts F.FnOnce event (noted_by pid access self.old) beside.old result self.new beside.new) }
+        ensures unchanged { OnErr result (self.new ≡ self.old) }
+        ensures beside { OnErr result (beside.new ≡ beside.old) }
     {
-        self.kept.take_back();
-        self.noted = self.kept.has_stray();
+        let noted = self.noted;
+        self.note_stray(pid, access)?;
+        let done = event(self, beside);
+        if done.is_err() {
+            self.kept.take_back();
+            self.noted = noted;
+        }
+        done
     }
 
     /// Ends a process by a signal: its own space goes, and a note is kept. Those go on that wait on a pipe of which an end closes.

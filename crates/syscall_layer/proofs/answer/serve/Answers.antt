@@ -1,17 +1,19 @@
 -- Within reach, or with its range noted.
-use Rattle.std.proofs.Common.{◌≡◌, refl, sym, ap, subst, ◌∙◌}
-use Rattle.std.specs.Prelude.{Ok}
-use Rattle.physical_turns.specs.Physical.{called_in}
-use Rattle.kept_parts.specs.declared.reach.Reach.{Reach}
+use Rattle.std.proofs.Common.{◌≡◌, refl, sym, ap, subst, rules, ◌∙◌}
+use Rattle.std.specs.Prelude.{Ok, IfOk, OnErr}
+use Rattle.std.proofs.lemmas.Result.{on_ok_weaker}
 use Rattle.page_runs.specs.Choosers.{kind_of}
-use Rattle.region_watch.specs.declared.mode.Mode.TheVariants.{GoOn}
-use Rattle.kept_parts.specs.Kept.{Kept}
-use Rattle.kept_parts.specs.Stands.{About}
-use Rattle.kept_parts.specs.Flats.{AreFlats}
+use Rattle.physical_turns.specs.Physical.{called_in}
 use Rattle.kept_parts.specs.InMemory.{headers_of, physical_of, InReach}
 use Rattle.kept_parts.specs.Reach.{is_whole}
+use Rattle.kept_parts.specs.declared.reach.Reach.{Reach}
 use Rattle.kept_parts.proofs.Holding.{unstrayed_holds}
-use Rattle.syscall_layer.proofs.CallsOn.{serves_unstrayed, notes_unstrayed, serves_first, strays_by, strays_first, notes_noted}
+use Rattle.kept_parts.specs.Kept.{Kept}
+use Rattle.syscall_layer.specs.Inside.{parts_of}
+use Rattle.syscall_layer.specs.Parts.{RunParts, noted_by}
+use Rattle.syscall_layer.proofs.CallsKeep.{parts_with}
+use Rattle.syscall_layer.proofs.CallsOn.{serves_unstrayed, notes_unstrayed, serves_first, strays_by, LeavesBehind, leaves_behind, goes_on_behind}
+use Rattle.syscall_layer.proofs.answer.serve.Given.{Over}
 use Rattle.syscall_layer.proofs.answer.serve.Goals as goal
 
 pub returns-in_default : goal.returns-in_default
@@ -52,17 +54,6 @@ returns-in_default g c =
       waits = λ is. gives.waits is c.parts.invariant.unmarked;
     })
 
-pub invariant_of-parts-in-GoOn : goal.invariant_of-parts-in-GoOn
-invariant_of-parts-in-GoOn g c =
-    let remains = c.in_ok-served-in-GoOn.ensures in
-    record {
-      noted = sym remains.strayed;
-      unmarked = remains.marks (c.serve_within.ensures.marks c.parts.invariant.unmarked);
-    }
-
-pub returns-in_ok-served-in-GoOn-clause-noted : goal.returns-in_ok-served-in-GoOn-clause-noted
-returns-in_ok-served-in-GoOn-clause-noted g c = sym c.in_ok-served-in-GoOn.ensures.strayed
-
 pub returns-in-Halt-clause-halts : goal.returns-in-Halt-clause-halts
 returns-in-Halt-clause-halts g c =
     let v = c.parts.view_is in
@@ -77,22 +68,31 @@ returns-in-Halt-clause-halts g c =
       stray = λ access is. ap (λ (k : Kept). record { kept = k; programs = i.programs.items; mode = i.mode; noted = i.noted }) (gives.stray c.in-Stray.access refl);
     })
 
-pub returns-in_ok-served-in-GoOn-clause-goes_on : goal.returns-in_ok-served-in-GoOn-clause-goes_on
-returns-in_ok-served-in-GoOn-clause-goes_on g c =
+-- the parts behind the call within reach
+abbrev unserved : (g : Over) (c : goal.After-behind_note g) → RunParts
+unserved g c = parts_with c.parts.inside.programs.items c.parts.inside.mode c.parts.inside.noted c.serve_within.new.parts
+
+-- what the call leaves behind the note of its range
+behind : (g : Over) (c : goal.After-behind_note g)
+    → IfOk c.behind_note.result (λ done. LeavesBehind (kind_of c.args.chooser.now) c.args.pid (noted_by c.args.pid c.in-Stray.access (unserved g c)) c.behind_note.new.self c.behind_note.result)
+behind g c =
+    on_ok_weaker c.behind_note.result (λ gave.
+    let left : LeavesBehind (kind_of c.args.chooser.now) c.args.pid gave.parts.now gave.left.0.now c.behind_note.result = record { memory = search rules; unnoted = search rules; strayed = search rules } in
+    leaves_behind (kind_of c.args.chooser.now) c.args.pid c.behind_note.result gave.parts.now gave.left.0.now (noted_by c.args.pid c.in-Stray.access (unserved g c)) c.behind_note.new.self gave.shows.0 gave.leaves.0 left)
+    c.behind_note.ensures.gives
+
+pub returns-in-GoOn-clause-goes_on : goal.returns-in-GoOn-clause-goes_on
+returns-in-GoOn-clause-goes_on g c =
     let v = c.parts.view_is in
     let k = c.parts.inside.kept in
     let headers = headers_of c.parts.inside.programs.items in
     let gives = rw c.deref.ensures.value at c.in_ok-served.ensures in
     let strayed = rw (← v) at c.reach.ensures.strayed in
-    let same = gives.stray c.in-Stray.access (ap Ok c.in-Stray.is) in
-    let notes = rw (c.deref-in-GoOn.ensures.value, same) at c.in_ok-served-in-GoOn.ensures in
-    let first = λ (goes : c.parts.inside.mode ≡ GoOn) (a : About) (kind : a.kind ≡ kind_of c.args.chooser.now) (flats : AreFlats a.programs c.parts.inside.programs.items).
+    let same : unserved g c ≡ parts_of c.parts.inside = ap (parts_with c.parts.inside.programs.items c.parts.inside.mode c.parts.inside.noted) (gives.stray c.in-Stray.access (ap Ok c.in-Stray.is)) in
+    rw (← v) (λ goes.
+    goes_on_behind (kind_of c.args.chooser.now) c.args.pid c.in-Stray.access (parts_of c.parts.inside) c.behind_note.new.self
+    (λ a kind flats.
     strays_by headers a k c.args.pid c.reach_in-within.result (strayed ∙ ap is_whole (sym (c.reach_in-within.ensures.goes_on goes))) c.serve_within.new.parts c.in-Stray.access c.in_ok-served.served c.in-Stray.is
-    (λ own quiet. gives.serves own a kind flats (unstrayed_holds k quiet)) (gives.memory a kind flats) in
-    rw (← v) (λ goes. record {
-      memory = λ a kind flats. notes.memory (first goes a kind flats).quiet a kind flats (first goes a kind flats).is;
-      unnoted = λ is a kind flats.
-          notes_noted headers a k c.args.pid c.in-Stray.access (first goes a kind flats).quiet (first goes a kind flats).is c.serve_within.new.parts c.serve_noted.new.parts same
-          (c.in_ok-served-in-GoOn.ensures.unnoted is);
-      first = λ quiet a kind flats. strays_first headers a k c.args.pid c.in-Stray.access c.serve_noted.new.parts c.in_ok-served-in-GoOn.served (first goes a kind flats).is c.in_ok-served-in-GoOn.ensures.strayed;
-    })
+    (λ own quiet. gives.serves own a kind flats (unstrayed_holds k quiet)) (gives.memory a kind flats))
+    c.behind_note.result (subst (λ (p : RunParts). OnErr c.behind_note.result (c.behind_note.new.self ≡ p)) same c.behind_note.ensures.unchanged)
+    (subst (λ (p : RunParts). IfOk c.behind_note.result (λ done. LeavesBehind (kind_of c.args.chooser.now) c.args.pid (noted_by c.args.pid c.in-Stray.access p) c.behind_note.new.self c.behind_note.result)) same (behind g c)))

@@ -84,8 +84,6 @@ returns-in_err-end_by_signal-in-Whole-clause-unchanged g c =
 
 -- ---- what remains
 
--- ---- what remains
-
 pub returns-in-Ok-clause-strayed : goal.returns-in-Ok-clause-strayed
 returns-in-Ok-clause-strayed g c =
     let k = c.args.parts.now in
@@ -112,33 +110,6 @@ returns-in_ok-end_by_signal-in-Whole-clause-strayed g c =
     c.end_by_signal.new.self (c.in_ok-end_by_signal-in-Whole.ensures.memory headers some_about) in
     (call_remains headers some_about k c.end_by_signal.new.self c.args.pid c.args.reach c.requires.strayed (Ok Ended)
     (λ own quiet. absurd (let e : Own ≡ Whole = sym own ∙ c.in-Whole.is in cc)) memory (λ access is. absurd cc)).notes
-
-pub returns-in-Ok-clause-pages : goal.returns-in-Ok-clause-pages
-returns-in-Ok-clause-pages g c =
-    let k = c.args.parts.now in
-    let flats = c.args.programs.now in
-    let a = about_with (kind_of c.args.chooser.now) flats in
-    let regular = (subst IsRegular c.parts.view_is c.parts.invariant.0).0 in
-    let lives = can_run_lives k.procs c.args.pid c.requires.ready in
-    let memory = call_goes (headers_of flats) a k c.args.pid regular lives c.args.reach
-    c.in-Ok.call c.in-Ok.ensures.pid c.in-Ok.ensures.made c.answer_and_wake.new.parts c.answer_and_wake.result (c.answer_and_wake.ensures.memory a refl (some_are_flats flats)) in
-    (call_remains (headers_of flats) a k c.answer_and_wake.new.parts c.args.pid c.args.reach c.requires.strayed c.answer_and_wake.result
-    (λ own quiet. serve_call a k c.args.pid regular lives c.in-Ok.call c.in-Ok.ensures.pid (own_made k c.args.pid c.args.reach own (Ok c.in-Ok.call) c.in-Ok.ensures.made)
-    c.answer_and_wake.new.parts c.answer_and_wake.result (c.answer_and_wake.ensures.serves own a refl (some_are_flats flats) (unstrayed_holds k quiet)))
-    memory c.answer_and_wake.ensures.stray).pages
-
-pub returns-in_err-end_by_signal-in-Whole-clause-pages : goal.returns-in_err-end_by_signal-in-Whole-clause-pages
-returns-in_err-end_by_signal-in-Whole-clause-pages g c = (remains_same c.args.parts.now c.end_by_signal.new.self (c.in_err-end_by_signal-in-Whole.ensures.dies some_about)).pages
-
-pub returns-in_ok-end_by_signal-in-Whole-clause-pages : goal.returns-in_ok-end_by_signal-in-Whole-clause-pages
-returns-in_ok-end_by_signal-in-Whole-clause-pages g c =
-    let k = c.args.parts.now in
-    let headers = headers_of c.args.programs.now in
-    let memory = outside_ends headers some_about k c.args.pid (subst IsRegular c.parts.view_is c.parts.invariant.0).0 (can_run_lives k.procs c.args.pid c.requires.ready) c.args.reach c.in-Whole.is c.in-Err-Stray.addr c.in-Err-Stray.len
-    (subst (λ (unread : Unread). MadeAs k c.args.pid c.args.reach (Err unread)) c.in-Err-Stray.field-0-is c.in-Err-Stray.ensures.made)
-    c.end_by_signal.new.self (c.in_ok-end_by_signal-in-Whole.ensures.memory headers some_about) in
-    (call_remains headers some_about k c.end_by_signal.new.self c.args.pid c.args.reach c.requires.strayed (Ok Ended)
-    (λ own quiet. absurd (let e : Own ≡ Whole = sym own ∙ c.in-Whole.is in cc)) memory (λ access is. absurd cc)).pages
 
 pub returns-in-Ok-clause-marks : goal.returns-in-Ok-clause-marks
 returns-in-Ok-clause-marks g c =

@@ -8,14 +8,14 @@ pub invariant_of-self : goal.invariant_of-self
 invariant_of-self c =
     let same = signal_same some_about c.self.inside.kept c.end_by_signal.new.self c.args.pid c.args.signal c.end_by_signal.result (c.end_by_signal.ensures.dies some_about) in
     record {
-      noted = c.self.invariant.noted ∙ sym same.0;
+      noted = c.self.invariant.noted ∙ sym same;
       unmarked = c.end_by_signal.ensures.marks c.self.invariant.unmarked;
     }
 
 pub returns-clause-noted : goal.returns-clause-noted
 returns-clause-noted c =
     let same = signal_same some_about c.self.inside.kept c.end_by_signal.new.self c.args.pid c.args.signal c.end_by_signal.result (c.end_by_signal.ensures.dies some_about) in
-    c.self.invariant.noted ∙ sym same.0
+    c.self.invariant.noted ∙ sym same
 
 pub returns-clause-dies : goal.returns-clause-dies
 returns-clause-dies c = let v = c.self.view_is in rw (← v) c.end_by_signal.ensures.dies
