@@ -202,7 +202,9 @@ fn whole_event<F: Fn(&[Run], u32) -> Option<usize>, G: Fn(&[Span], u32, u32) -> 
 }
 
 /// Notes the access of an instruction that strays, the run's first. A run that goes on then carries out its event over all of memory; out
-/// of memory there is no such note either.
+/// of memory there is no such note either. It stays a function of its own, since each turn would save the registers that it needs, and
+/// next to none comes here.
+#[inline(never)]
 fn stray<F: Fn(&[Run], u32) -> Option<usize>, G: Fn(&[Span], u32, u32) -> bool>(
     parts: &mut Parts,
     pid: u32,
