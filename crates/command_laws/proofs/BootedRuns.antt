@@ -14,11 +14,11 @@ use Rattle.machine_world.specs.Boot.{StartLine, empty_world}
 use Rattle.machine_world.specs.Order.{IsInOrder, IsFresh}
 use Rattle.machine_world.proofs.OrderBegins.{boots_begin_in_order}
 use Rattle.machine_world.proofs.OrderKept.{runs_keep_order}
-use Rattle.stays_laws.specs.Laws.{CanBoot}
-use Rattle.stays_laws.specs.Sound.{IsSound}
-use Rattle.stays_laws.specs.Stays.{Stay, AreRight, first_stays}
-use Rattle.stays_laws.proofs.SoundRuns.{boots_are_sound}
-use Rattle.stays_laws.proofs.StaysRuns.{boots_begin_stays, runs_keep_stays}
+use Rattle.alone_laws.specs.Laws.{CanBoot}
+use Rattle.alone_laws.specs.Sound.{IsSound}
+use Rattle.alone_laws.specs.Stays.{Stay, AreRight, first_stays}
+use Rattle.alone_laws.proofs.SoundRuns.{boots_are_sound}
+use Rattle.alone_laws.proofs.StaysRuns.{boots_begin_stays, runs_keep_stays}
 use Rattle.end_laws.proofs.EndBoots.{boots_end_none}
 use Rattle.end_laws.proofs.EndRuns.{runs_end_as_alone}
 use Rattle.waits_laws.proofs.Boots.{boots_wait_well}

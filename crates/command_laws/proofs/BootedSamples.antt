@@ -51,7 +51,7 @@ use Rattle.machine_world.specs.Free.{free_runs_in}
 use Rattle.machine_world.specs.Event.{Trace, ended, stepped, exited, answer, settled, at_process, event}
 use Rattle.machine_world.specs.Turns.{Walk, all_ended, turn, turns}
 use Rattle.machine_world.specs.Boot.{bad_start, started, all_started, begun, empty_world, boot}
-use Rattle.stays_laws.specs.Stays.{Stay, change_at, collect_all, first_stays}
+use Rattle.alone_laws.specs.Stays.{Stay, change_at, collect_all, first_stays}
 use Rattle.end_laws.specs.Laws.{EndsInAStay, EndsAreTold}
 use Rattle.run_setup.specs.Brought.{Brought, all_brought}
 use Rattle.suite_top.specs.Run.{start_line, opening}

@@ -2,7 +2,7 @@
 use Rattle.std.proofs.Common.{◌≡◌, ◌≢◌, ℕ, [], Option, Some, None, ◌⊎◌, inl, inr, refl, ap}
 use Rattle.rv32im_step.specs.declared.access.Access.{Access}
 use Rattle.machine_world.specs.Turns.{End, all_ended, stuck, out_of_quanta, stray_at, log_full, turns}
-use Rattle.physical_turns.specs.Physical.{turns_in, opening_in}
+use Rattle.memory_world.specs.Physical.{turns_in, opening_in}
 use Rattle.go_on_laws.proofs.NeverStrays.{runs_never_stray}
 use Rattle.region_watch.specs.declared.mode.Mode.TheVariants.{Halt, GoOn}
 use Rattle.file_commands.specs.declared.status.Status.TheVariants.{Stray}

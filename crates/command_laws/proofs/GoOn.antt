@@ -8,10 +8,10 @@ use Rattle.region_watch.specs.Private.{only}
 use Rattle.vfork_exec.specs.Keyed.{find}
 use Rattle.machine_world.specs.World.{LiveSpace, Process, World, pid_of, id_of}
 use Rattle.machine_world.specs.Turns.{End, Walk, all_ended, stuck, out_of_quanta, stray_at, log_full}
-use Rattle.physical_turns.specs.Physical.{Physical, WalkIn}
-use Rattle.physical_turns.proofs.Sub.{span_sub}
-use Rattle.physical_turns.proofs.InMemory.{space_shows}
-use Rattle.physical_turns.proofs.Moves.{found_is_shown}
+use Rattle.memory_world.specs.Physical.{Physical, WalkIn}
+use Rattle.memory_world.proofs.Sub.{span_sub}
+use Rattle.memory_world.proofs.InMemory.{space_shows}
+use Rattle.memory_world.proofs.Moves.{found_is_shown}
 use Rattle.go_on_laws.specs.Alike.{Stands}
 use Rattle.go_on_laws.specs.Laws.{EndsAlike, GoesPast, GoesAlike}
 use Rattle.flat_machine.specs.OwnBytes.{read_or_none, bytes_in, bytes_of, own_bytes, bytes_for, memory_bytes}

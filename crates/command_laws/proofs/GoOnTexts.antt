@@ -7,7 +7,7 @@ use Rattle.manifest_text.specs.declared.manifest.Dump.{Dump}
 use Rattle.vfork_exec.specs.Keyed.{find}
 use Rattle.machine_world.specs.World.{Program, Process, World, pid_of, program_path}
 use Rattle.machine_world.specs.Turns.{End, Walk}
-use Rattle.physical_turns.specs.Physical.{Physical, WalkIn}
+use Rattle.memory_world.specs.Physical.{Physical, WalkIn}
 use Rattle.go_on_laws.specs.Alike.{Stands}
 use Rattle.go_on_laws.specs.Laws.{EndsAlike}
 use Rattle.flat_machine.specs.OwnBytes.{own_bytes, bytes_for, memory_bytes}

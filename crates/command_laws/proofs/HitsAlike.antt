@@ -19,11 +19,11 @@ use Rattle.machine_world.specs.Event.{Trace, Outcome, went, strays, full, idle, 
 use Rattle.machine_world.specs.Turns.{End, Walk, stray_at, remains_at, traced, turn, going_on, quantum_turn, turns}
 use Rattle.machine_world.proofs.Runnable.{may_run_still, ready_found}
 use Rattle.machine_world.proofs.TurnLaws.{turn_next}
-use Rattle.stays_laws.specs.Sound.{IsSound}
-use Rattle.stays_laws.proofs.SoundRuns.{events_keep_sound, turns_keep_sound}
-use Rattle.physical_turns.specs.Physical.{Physical, After, after as moves, no_room, nobody, in_memory, carried_out, has_stray, event_in, WalkIn, turn_in}
-use Rattle.physical_turns.specs.Wider.{IsWithin, Widens}
-use Rattle.physical_turns.proofs.Widened.{wide_meaning}
+use Rattle.alone_laws.specs.Sound.{IsSound}
+use Rattle.alone_laws.proofs.SoundRuns.{events_keep_sound, turns_keep_sound}
+use Rattle.memory_world.specs.Physical.{Physical, After, after as moves, no_room, nobody, in_memory, carried_out, has_stray, event_in, WalkIn, turn_in}
+use Rattle.memory_world.specs.Wider.{IsWithin, Widens}
+use Rattle.memory_world.proofs.Widened.{wide_meaning}
 use Rattle.go_on_laws.specs.Alike.{Stands}
 use Rattle.go_on_laws.specs.Laws.{LeadsTo, EndsAlike, GoesAlike}
 use Rattle.go_on_laws.proofs.Behind.{Goes}

@@ -13,8 +13,8 @@ use Rattle.machine_world.specs.World.{Launch, Recording, World}
 use Rattle.machine_world.specs.Recordings.{is_kept, most_count}
 use Rattle.machine_world.specs.Boot.{empty_world}
 use Rattle.machine_world.specs.Turns.{turns}
-use Rattle.stays_laws.specs.Stays.{Stay, stays_along, first_stays}
-use Rattle.stays_laws.proofs.Lists.{eqb_same}
+use Rattle.alone_laws.specs.Stays.{Stay, stays_along, first_stays}
+use Rattle.alone_laws.proofs.Lists.{eqb_same}
 use Rattle.recording_laws.specs.Items.{with_lists, launch_in, AreRecorded}
 use Rattle.recording_laws.specs.Homes.{calls_at}
 use Rattle.recording_laws.proofs.Runs.{boots_record, runs_record, recordings_tell}

@@ -43,7 +43,7 @@ use Rattle.machine_world.specs.Transfers.{read_row}
 use Rattle.machine_world.specs.Event.{stepped, served, waited, answer, settled, at_process, event}
 use Rattle.machine_world.specs.Turns.{Walk, stuck, turn, turns}
 use Rattle.machine_world.specs.Boot.{started, all_started, boot}
-use Rattle.stays_laws.specs.Stays.{Stay, AreRight, AllAgree, Agrees, runners, kept_calls_of, loads_of, belonging, change_at, collect_all, first_stays}
+use Rattle.alone_laws.specs.Stays.{Stay, AreRight, AllAgree, Agrees, runners, kept_calls_of, loads_of, belonging, change_at, collect_all, first_stays}
 use Rattle.waits_laws.specs.Waits.{WaitsAgain, WaitsWell, IfWaits}
 use Rattle.waits_laws.specs.Laws.{WaitsOrLent}
 use Rattle.run_setup.specs.Brought.{all_brought}

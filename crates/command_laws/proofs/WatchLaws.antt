@@ -3,7 +3,7 @@ use Rattle.std.proofs.Common.{◌≡◌, ℕ, Bool, List, [], ◌++◌, Option, 
 use Rattle.std.proofs.lemmas.List.{append_assoc}
 use Rattle.machine_world.specs.World.{World}
 use Rattle.machine_world.specs.Turns.{End, turns}
-use Rattle.physical_turns.specs.Physical.{turns_in, opening_in}
+use Rattle.memory_world.specs.Physical.{turns_in, opening_in}
 use Rattle.region_watch.specs.declared.mode.Mode.{Mode}
 use Rattle.region_watch.specs.declared.mode.Mode.TheVariants.{Halt, GoOn}
 use Rattle.quantum_sched.specs.declared.Quantum.{Quantum}

@@ -8,9 +8,9 @@ use Rattle.vfork_exec.specs.Keyed.{find}
 use Rattle.machine_world.specs.World.{Process, World, pid_of}
 use Rattle.machine_world.specs.Turns.{Walk, stray_at}
 use Rattle.machine_world.specs.Order.{IsInOrder}
-use Rattle.physical_turns.specs.Physical.{Physical, WalkIn, turns_in, opening_in}
+use Rattle.memory_world.specs.Physical.{Physical, WalkIn, turns_in, opening_in}
 use Rattle.go_on_laws.specs.Laws.{GoesPast}
-use Rattle.memory_refusals.specs.Regular.{IsRegularIn}
+use Rattle.refusals_in_memory.specs.Regular.{IsRegularIn}
 use Rattle.region_watch.specs.declared.mode.Mode.TheVariants.{Halt, GoOn}
 use Rattle.watch_points.specs.declared.point.PointKind.{PointKind}
 use Rattle.flat_machine.specs.Runs.{repeated}

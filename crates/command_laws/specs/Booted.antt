@@ -10,7 +10,7 @@ use Rattle.machine_world.specs.Order.{IsInOrder}
 use Rattle.vfork_exec.specs.Keyed.{find}
 use Rattle.waits_laws.specs.Waits.{WaitsWell}
 use Rattle.waits_laws.specs.Laws.{WaitsOrLent}
-use Rattle.stays_laws.specs.Stays.{Stay, AreRight, stays_along, first_stays}
+use Rattle.alone_laws.specs.Stays.{Stay, AreRight, stays_along, first_stays}
 use Rattle.end_laws.specs.Laws.{EndsAreTold}
 use Rattle.refusal_laws.specs.Regular.{IsRegularWorld}
 use Rattle.flat_machine.specs.Runs.{repeated}

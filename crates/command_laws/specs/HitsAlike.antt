@@ -4,8 +4,8 @@ use Rattle.rv32im_step.specs.declared.access.Access.{Access}
 use Rattle.quantum_sched.specs.declared.Quantum.{Quantum}
 use Rattle.machine_world.specs.World.{World}
 use Rattle.machine_world.specs.Turns.{stray_at, turns}
-use Rattle.stays_laws.specs.Sound.{IsSound}
-use Rattle.physical_turns.specs.Physical.{Physical, has_stray}
+use Rattle.alone_laws.specs.Sound.{IsSound}
+use Rattle.memory_world.specs.Physical.{Physical, has_stray}
 use Rattle.go_on_laws.specs.Alike.{Stands}
 use Rattle.watch_points.specs.declared.point.PointKind.{PointKind}
 use Rattle.watch_points.specs.declared.span.Span.{Span}

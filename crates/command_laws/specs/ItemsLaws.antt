@@ -7,7 +7,7 @@ use Rattle.region_watch.specs.declared.mode.Mode.TheVariants.{Halt}
 use Rattle.watch_points.specs.declared.point.PointKind.{PointKind}
 use Rattle.items_text.specs.Items.{ItemsValue}
 use Rattle.recorded_items.specs.Recorded.{told_item}
-use Rattle.stays_laws.specs.Stays.{Stay}
+use Rattle.alone_laws.specs.Stays.{Stay}
 use Rattle.file_commands.specs.Outcome.{Outcome, Inputs}
 use Rattle.file_commands.specs.Arguments.{KeptItems, run, command_of}
 use Rattle.suite_top.specs.declared.telling.Telling.TheVariants.{Report}

@@ -5,7 +5,7 @@ use Rattle.region_watch.specs.declared.mode.Mode.{Mode}
 use Rattle.region_watch.specs.declared.mode.Mode.TheVariants.{Halt, GoOn}
 use Rattle.watch_points.specs.declared.point.PointKind.{PointKind}
 use Rattle.machine_world.specs.World.{World}
-use Rattle.physical_turns.specs.Physical.{opening_in}
+use Rattle.memory_world.specs.Physical.{opening_in}
 use Rattle.flat_machine.specs.Runs.{repeated}
 use Rattle.flat_machine.specs.Hits.{hits, hits_in_memory}
 use Rattle.file_commands.specs.Outcome.{Inputs}

@@ -18,7 +18,7 @@ use Rattle.flat_loader.specs.Frame.{frame_len, frame, frame_start}
 use Rattle.flat_loader.specs.Begin.{begin_space}
 use Rattle.flat_loader.specs.Alone.{Runner, OwnMemory, Solo, memory_of, number_of, writable_of}
 use Rattle.machine_world.specs.Event.{is_exit}
-use Rattle.stays_laws.specs.Stays.{Stay}
+use Rattle.alone_laws.specs.Stays.{Stay}
 use Rattle.end_laws.specs.Laws.{EndsSo, EndsAlone, EndsInAStay, EndsAreTold}
 use Rattle.definition_samples.proofs.Exits.{regs, exit_item, space, over}
 use Rattle.definition_samples.proofs.StaysSamples.{stay, alone-first, alone-one}

@@ -11,7 +11,7 @@ use Rattle.flat_loader.specs.Original.{block_pages}
 use Rattle.flat_loader.specs.Frame.{frame_len, frame, frame_start}
 use Rattle.flat_loader.specs.Begin.{begin_space}
 use Rattle.vfork_exec.specs.Keyed.{find}
-use Rattle.physical_turns.specs.Physical.{Physical}
+use Rattle.memory_world.specs.Physical.{Physical}
 use Rattle.kept_parts.specs.Stands.{world_of}
 use Rattle.kept_parts.specs.InMemory.{headers_of, physical_of}
 use Rattle.flat_machine.specs.OwnBytes.{own_bytes, memory_bytes}

@@ -13,7 +13,7 @@ use Rattle.mmap_rules.specs.Held.{block_mapping}
 use Rattle.mem_files.specs.Inodes.{Inode, Inodes, file, folder, new_inode, inode_at, bytes_in}
 use Rattle.machine_world.specs.World.{LiveSpace}
 use Rattle.machine_world.specs.MapCalls.{all_maps}
-use Rattle.stays_laws.specs.Sound.{ShareCopy, Apart, AreApart, copied_byte, HoldsFile, HoldsSource, HoldCopies}
+use Rattle.alone_laws.specs.Sound.{ShareCopy, Apart, AreApart, copied_byte, HoldsFile, HoldsSource, HoldCopies}
 
 -- ---- the file 2 has two bytes, and was changed five times; its first page is copied into page 2
 

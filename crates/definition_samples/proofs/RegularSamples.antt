@@ -12,9 +12,9 @@ use Rattle.flat_loader.specs.Begin.{begin_space, own_range, begin_byte}
 use Rattle.machine_world.specs.World.{LiveSpace, World}
 use Rattle.refusal_laws.specs.Regular.{memory_end, HasBreak, IsRegularWorld}
 use Rattle.refusal_laws.specs.Bounded.{IsBounded}
-use Rattle.physical_turns.specs.Physical.{Physical, or_below, over, zeros}
-use Rattle.physical_turns.specs.Courses.{IsShown}
-use Rattle.memory_refusals.specs.Regular.{IsRegularIn}
+use Rattle.memory_world.specs.Physical.{Physical, or_below, over, zeros}
+use Rattle.memory_world.specs.Courses.{IsShown}
+use Rattle.refusals_in_memory.specs.Regular.{IsRegularIn}
 use Rattle.definition_samples.proofs.Exits.{loading, process, space, running}
 use Rattle.definition_samples.proofs.OrderedSamples.{is-counted}
 use Rattle.definition_samples.proofs.SoundSamples.{is-sound}

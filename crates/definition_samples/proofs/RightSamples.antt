@@ -8,7 +8,7 @@ use Rattle.flat_loader.specs.Original.{Original}
 use Rattle.flat_loader.specs.Alone.{Runner, Solo, Item, memory_of}
 use Rattle.vfork_exec.specs.Keyed.{find}
 use Rattle.machine_world.specs.World.{Process}
-use Rattle.stays_laws.specs.Stays.{Stay, runners, kept_calls_of, loads_of, belonging, alone_end, IsOver, Agrees, AllAgree, AreRight}
+use Rattle.alone_laws.specs.Stays.{Stay, runners, kept_calls_of, loads_of, belonging, alone_end, IsOver, Agrees, AllAgree, AreRight}
 use Rattle.definition_samples.proofs.Exits.{exits, loading, regs, exit_entry, exit_item, process, space, load, running, over}
 use Rattle.definition_samples.proofs.StaysSamples.{stay, alone-first, alone-one, alone-all, alone-untold}
 

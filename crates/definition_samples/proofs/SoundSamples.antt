@@ -12,7 +12,7 @@ use Rattle.vfork_exec.specs.declared.family.State.TheVariants.{Lent}
 use Rattle.machine_world.specs.World.{Process, LiveSpace, World, pid_of, id_of}
 use Rattle.machine_world.specs.Families.{sharing, IsChain, AreChains}
 use Rattle.machine_world.specs.Ages.{AreChanged}
-use Rattle.stays_laws.specs.Sound.{IsSpace, ShareCopy, HoldsSource, HoldCopies, IsSound}
+use Rattle.alone_laws.specs.Sound.{IsSpace, ShareCopy, HoldsSource, HoldCopies, IsSound}
 use Rattle.definition_samples.proofs.Exits.{tree, process, space, running}
 
 -- ---- the program's block is a space of two pages

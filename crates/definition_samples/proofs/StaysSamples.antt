@@ -31,7 +31,7 @@ use Rattle.machine_world.specs.Free.{free_runs_in}
 use Rattle.machine_world.specs.Event.{ended, stepped, exited, answer, settled, at_process, event}
 use Rattle.machine_world.specs.Turns.{turn, turns}
 use Rattle.machine_world.specs.Boot.{empty_world, started, all_started, boot}
-use Rattle.stays_laws.specs.Stays.{Stay, change_at, collect_all, stays_along, first_stays, alone_end}
+use Rattle.alone_laws.specs.Stays.{Stay, change_at, collect_all, stays_along, first_stays, alone_end}
 use Rattle.definition_samples.proofs.Exits.{loading, regs, exit_item, rest_with, start, running, over}
 
 -- ---- the run itself: the world at boot, behind one event, and behind all

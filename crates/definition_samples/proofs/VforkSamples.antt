@@ -33,7 +33,7 @@ use Rattle.machine_world.specs.Recordings.{nothing_recorded}
 use Rattle.machine_world.specs.Families.{is_full, borrows, spaces_left, all_left_by, all_roused, ready_pids}
 use Rattle.machine_world.specs.Event.{ended, stepped, exited, forked, cloned, answer, settled, at_process, event}
 use Rattle.machine_world.specs.Turns.{turn, turns}
-use Rattle.stays_laws.specs.Stays.{Stay, change_at, collect_all, stays_along, runners, kept_calls_of, loads_of, belonging, alone_end, Agrees, AllAgree, AreRight}
+use Rattle.alone_laws.specs.Stays.{Stay, change_at, collect_all, stays_along, runners, kept_calls_of, loads_of, belonging, alone_end, Agrees, AllAgree, AreRight}
 use Rattle.definition_samples.proofs.Exits.{rest_with, load}
 
 -- six words at number 64: a0 becomes 0x4111 and a7 220, a call, a7 becomes 93, a call

@@ -12,7 +12,7 @@ ghost use Rattle.flat_layout.specs.Numbering.{has_bytes};
 ghost use Rattle.elf2flt_tool.specs.Slides.{slid_patch, section_slide, AreSlides, IsSlid, GoDown, end_of};
 
 use crate::image::HEADER_LEN;
-use elf32_reader::{Elf, Section};
+use elf32_reader::Elf;
 use flat_layout::{Layout, has_bytes};
 use std::alloc::{AllocError, Global};
 

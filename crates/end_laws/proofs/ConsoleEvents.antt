@@ -18,8 +18,8 @@ use Rattle.machine_world.specs.Rows.{row}
 use Rattle.machine_world.specs.Event.{Outcome, went, full, ended, stepped, trapped, ask_of, entry_of, room_for, served, put, waited, answered, classed, asked, answer, settled, effect, in_space, by_process, at_process, event}
 use Rattle.machine_world.proofs.States.{find_has}
 use Rattle.machine_world.proofs.ByEvents.{Went, Answered, by_classed, by_settled}
-use Rattle.stays_laws.specs.Stays.{kept_calls_of}
-use Rattle.stays_laws.proofs.Lists.{if_yes, eqb_is}
+use Rattle.alone_laws.specs.Stays.{kept_calls_of}
+use Rattle.alone_laws.proofs.Lists.{if_yes, eqb_is}
 use Rattle.end_laws.specs.Console.{is_write, data_of, takes_output, has_console, prints, printed, AreWhole, Prints, EventsPrint}
 use Rattle.end_laws.proofs.ConsoleRows.{quiet_rows, Adds, AddsIn, adds_write, adds_writev}
 

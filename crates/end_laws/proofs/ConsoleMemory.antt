@@ -28,9 +28,9 @@ use Rattle.machine_world.specs.Rows.{row}
 use Rattle.machine_world.specs.Event.{Outcome, went, strays, full, idle, served, told_in, classed}
 use Rattle.machine_world.specs.Turns.{End, seen_of}
 use Rattle.machine_world.proofs.States.{find_has}
-use Rattle.stays_laws.specs.Stays.{kept_calls_of}
-use Rattle.stays_laws.proofs.Lists.{eqb_is}
-use Rattle.physical_turns.specs.Physical.{Physical, After, after, no_room, nobody, behind, carried, settled_in, outside, killed, put_in, answered_in, full_at, reaped_in, waitid_behind_in, waitid_in, writes_nothing, classed_in, asked_in, answer_in, effect_in, in_space_in, by_process_in, at_process_in, in_memory, next_meaning, carried_out, first_stray_in, with_stray, event_in, WalkIn, remains_at_in, turned_in, turn_in, going_on_in, quantum_turn_in, turns_in}
+use Rattle.alone_laws.specs.Stays.{kept_calls_of}
+use Rattle.alone_laws.proofs.Lists.{eqb_is}
+use Rattle.memory_world.specs.Physical.{Physical, After, after, no_room, nobody, behind, carried, settled_in, outside, killed, put_in, answered_in, full_at, reaped_in, waitid_behind_in, waitid_in, writes_nothing, classed_in, asked_in, answer_in, effect_in, in_space_in, by_process_in, at_process_in, in_memory, next_meaning, carried_out, first_stray_in, with_stray, event_in, WalkIn, remains_at_in, turned_in, turn_in, going_on_in, quantum_turn_in, turns_in}
 use Rattle.end_laws.specs.Console.{is_write, data_of, prints, printed, AreWhole, calls_of}
 use Rattle.end_laws.specs.ConsoleIn.{calls_since, PrintsIn, EventsPrintIn, MomentIn, moments_behind_in, turn_moments_in, moments_on_in, quantum_moments_in, moments_in, all_calls_in, all_printed_in, AllWholeIn, PrintsAlongIn, TurnsPrintIn, RunsPrintIn}
 use Rattle.end_laws.proofs.ConsoleRows.{IsQuiet, quiet_rows, AddsIn, adds_write, adds_writev}

@@ -11,7 +11,7 @@ use Rattle.machine_world.specs.Free.{free}
 use Rattle.machine_world.specs.Event.{Trace, Outcome, went, strays, full, idle, event}
 use Rattle.machine_world.specs.Turns.{Walk, End, traced, remains_at, turned, turn, walked, going_on, quantum_turn, turns}
 use Rattle.machine_world.specs.Boot.{StartLine, BootFault, Found, found, start_path, taken, placed, fitting, located, started, then_started, all_started, empty_world, boot}
-use Rattle.stays_laws.specs.Stays.{kept_calls_of}
+use Rattle.alone_laws.specs.Stays.{kept_calls_of}
 use Rattle.end_laws.specs.Console.{calls_of, printed, Prints, Moment, moments_behind, turn_moments, moments_on, quantum_moments, moments, all_calls, all_printed, AllWhole, PrintsAlong, TurnsPrint, RunsPrint, BootsPrintNone}
 use Rattle.end_laws.proofs.ConsoleEvents.{PrintsIn, prints_event}
 

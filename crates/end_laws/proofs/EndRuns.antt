@@ -13,10 +13,10 @@ use Rattle.machine_world.specs.Event.{Trace, Outcome, went, strays, full, idle, 
 use Rattle.machine_world.specs.Turns.{Walk, End, stray_at, seen_of, traced, remains_at, turned, turn, going_on, quantum_turn, turns}
 use Rattle.machine_world.proofs.TurnLaws.{turn_strays}
 use Rattle.machine_world.proofs.Runnable.{may_run_still, ready_found}
-use Rattle.stays_laws.specs.Stays.{Stay, change_at, longer, begun_stay, collect, collect_all, AreRight}
-use Rattle.stays_laws.specs.Sound.{IsSound}
-use Rattle.stays_laws.proofs.SoundRuns.{events_keep_sound, turns_keep_sound}
-use Rattle.stays_laws.proofs.StaysRuns.{events_keep_stays, turns_keep_stays}
+use Rattle.alone_laws.specs.Stays.{Stay, change_at, longer, begun_stay, collect, collect_all, AreRight}
+use Rattle.alone_laws.specs.Sound.{IsSound}
+use Rattle.alone_laws.proofs.SoundRuns.{events_keep_sound, turns_keep_sound}
+use Rattle.alone_laws.proofs.StaysRuns.{events_keep_stays, turns_keep_stays}
 use Rattle.end_laws.specs.Laws.{EndsItsStay, IsBefore, EndsInAStay, EndsAreTold, TurnsEndAsAlone, RunsEndAsAlone}
 use Rattle.end_laws.proofs.NewNotes.{AddsNotes, end_at, Adds}
 use Rattle.end_laws.proofs.Ends.{Told, ends_event}

@@ -21,10 +21,10 @@ use Rattle.machine_world.specs.Recordings.{room_in}
 use Rattle.machine_world.specs.Event.{Trace, Outcome, went, full, ended, stepped, trapped, ask_of, entry_of, answered, exit_code, exited, is_exit, waitid, cloned, exec, classed, asked, answer, settled, effect, in_space, by_process, at_process, event}
 use Rattle.machine_world.proofs.States.{find_has}
 use Rattle.machine_world.proofs.ByEvents.{by_settled}
-use Rattle.stays_laws.specs.Stays.{Stay, runner_of, AreRight}
-use Rattle.stays_laws.specs.Sound.{IsSound}
-use Rattle.stays_laws.proofs.Frame.{writable}
-use Rattle.stays_laws.proofs.EventStays.{below, has_stay, end_of}
+use Rattle.alone_laws.specs.Stays.{Stay, runner_of, AreRight}
+use Rattle.alone_laws.specs.Sound.{IsSound}
+use Rattle.alone_laws.proofs.Frame.{writable}
+use Rattle.alone_laws.proofs.EventStays.{below, has_stay, end_of}
 use Rattle.end_laws.specs.Laws.{EndsSo, EndsItsStay, EventsEndAsAlone}
 use Rattle.end_laws.proofs.NewNotes.{AddsNotes, end_added, Adds, adds_test, adds_if, adds_answered, adds_waitid, adds_cloned, adds_exec}
 

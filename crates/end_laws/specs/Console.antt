@@ -16,7 +16,7 @@ use Rattle.machine_world.specs.Families.{ready_pids}
 use Rattle.machine_world.specs.Event.{Trace, Outcome, went, strays, full, idle, event}
 use Rattle.machine_world.specs.Turns.{End, Walk, turn, turns}
 use Rattle.machine_world.specs.Boot.{StartLine, boot}
-use Rattle.stays_laws.specs.Stays.{kept_calls_of}
+use Rattle.alone_laws.specs.Stays.{kept_calls_of}
 
 -- ---- a call
 

@@ -6,8 +6,8 @@ use Rattle.quantum_sched.specs.Picked.{picked}
 use Rattle.machine_world.specs.World.{World}
 use Rattle.machine_world.specs.Families.{ready_pids}
 use Rattle.machine_world.specs.Turns.{End}
-use Rattle.physical_turns.specs.Physical.{Physical, After, after, no_room, nobody, event_in, turn_in, turns_in}
-use Rattle.stays_laws.specs.Stays.{kept_calls_of}
+use Rattle.memory_world.specs.Physical.{Physical, After, after, no_room, nobody, event_in, turn_in, turns_in}
+use Rattle.alone_laws.specs.Stays.{kept_calls_of}
 use Rattle.end_laws.specs.Console.{printed, AreWhole}
 
 -- ---- an event

@@ -12,8 +12,8 @@ use Rattle.machine_world.specs.Families.{MayRun}
 use Rattle.machine_world.specs.Event.{Trace, went, is_exit, event}
 use Rattle.machine_world.specs.Turns.{turn, turns}
 use Rattle.machine_world.specs.Boot.{StartLine, boot}
-use Rattle.stays_laws.specs.Stays.{Stay, AreRight, alone_end, collect_all, stays_along}
-use Rattle.stays_laws.specs.Sound.{IsSound}
+use Rattle.alone_laws.specs.Stays.{Stay, AreRight, alone_end, collect_all, stays_along}
+use Rattle.alone_laws.specs.Sound.{IsSound}
 
 -- ---- one event
 

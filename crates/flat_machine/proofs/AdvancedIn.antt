@@ -24,11 +24,11 @@ use Rattle.vfork_exec.proofs.Keyed.{find_changed}
 use Rattle.machine_world.specs.World.{Process, LiveSpace, World, pid_of, id_of}
 use Rattle.machine_world.specs.Courses.{Leads, StandsAt, Halts}
 use Rattle.machine_world.proofs.States.{change_same, with_own}
-use Rattle.physical_turns.specs.Physical.{Physical, in_memory, shown_space, moved_in, has_stray}
-use Rattle.physical_turns.specs.Wider.{IsWithin, Grows}
-use Rattle.physical_turns.specs.Courses.{LeadsIn, IsShown, StandsIn, HaltsIn}
-use Rattle.physical_turns.proofs.StepsIn.{own_instructions_lead, whole_instructions_lead}
-use Rattle.physical_turns.proofs.Moves.{calls_in, traps_in}
+use Rattle.memory_world.specs.Physical.{Physical, in_memory, shown_space, moved_in, has_stray}
+use Rattle.memory_world.specs.Wider.{IsWithin, Grows}
+use Rattle.memory_world.specs.Courses.{LeadsIn, IsShown, StandsIn, HaltsIn}
+use Rattle.memory_world.proofs.StepsIn.{own_instructions_lead, whole_instructions_lead}
+use Rattle.memory_world.proofs.Moves.{calls_in, traps_in}
 use Rattle.kept_parts.specs.declared.task.Task.{Task}
 use Rattle.kept_parts.specs.declared.reach.Reach.{Reach}
 use Rattle.kept_parts.specs.declared.reach.Reach.TheVariants.{Own, Whole}

@@ -14,7 +14,7 @@ use Rattle.machine_world.specs.Boot.{StartLine, BootFault, bad_start, args_too_b
 use Rattle.machine_world.specs.Programs.{LoadsPrograms}
 use Rattle.machine_world.proofs.Loads.{boot_loads_programs}
 use Rattle.machine_world.proofs.Marks.{boots_leave_no_mark}
-use Rattle.physical_turns.specs.Physical.{has_stray}
+use Rattle.memory_world.specs.Physical.{has_stray}
 use Rattle.bflt_format.specs.Values.{Values}
 use Rattle.region_watch.specs.declared.mode.Mode.{Mode}
 use Rattle.kept_parts.specs.Awake.{with_wakes, awake_in}

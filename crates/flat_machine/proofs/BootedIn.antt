@@ -11,7 +11,7 @@ use Rattle.byte_words.proofs.ByteArrays.{byte_before, byte_past}
 use Rattle.region_watch.specs.Private.{physical}
 use Rattle.mem_files.specs.Inodes.{Inodes}
 use Rattle.fd_tables.specs.Files.{OpenFiles}
-use Rattle.physical_turns.specs.Physical.{Physical, showing, first_memory, opening_in}
+use Rattle.memory_world.specs.Physical.{Physical, showing, first_memory, opening_in}
 use Rattle.kept_parts.specs.Kept.{Kept, nothing_yet}
 use Rattle.region_watch.specs.Private.{in_pages}
 use Rattle.kept_parts.specs.Stands.{About, live_spaces, world_of}

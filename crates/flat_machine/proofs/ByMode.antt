@@ -9,7 +9,7 @@ use Rattle.machine_world.specs.Turns.{seen_of}
 use Rattle.region_watch.specs.declared.mode.Mode.{Mode}
 use Rattle.region_watch.specs.declared.mode.Mode.TheVariants.{Halt, GoOn}
 use Rattle.syscall_layer.specs.Parts.{halted_at}
-use Rattle.physical_turns.specs.Physical.{has_stray}
+use Rattle.memory_world.specs.Physical.{has_stray}
 use Rattle.kept_parts.specs.Noted.{first_noted}
 use Rattle.kept_parts.proofs.NotedStrays.{stray_first, stray_reversed}
 use Rattle.kept_parts.specs.Copies.{HoldsFiles}

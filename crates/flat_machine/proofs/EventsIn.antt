@@ -11,9 +11,9 @@ use Rattle.machine_world.specs.Families.{MayRun}
 use Rattle.machine_world.specs.Event.{Outcome, went, strays, full, idle, stray_in, stray, event, called, died}
 use Rattle.machine_world.specs.Courses.{StandsAt}
 use Rattle.machine_world.proofs.Signals.{trap_small}
-use Rattle.physical_turns.specs.Physical.{Physical, in_memory, After as Outcome_in, after as goes, no_room, nobody, has_stray, first_stray_in, with_stray, event_in, carried_out, died_in, outside}
-use Rattle.physical_turns.specs.Courses.{StandsIn}
-use Rattle.physical_turns.proofs.Moves.{noted_unstrayed, first_strays, event_in_carried, event_in_calm, carried_trapped, carried_refused}
+use Rattle.memory_world.specs.Physical.{Physical, in_memory, After as Outcome_in, after as goes, no_room, nobody, has_stray, first_stray_in, with_stray, event_in, carried_out, died_in, outside}
+use Rattle.memory_world.specs.Courses.{StandsIn}
+use Rattle.memory_world.proofs.Moves.{noted_unstrayed, first_strays, event_in_carried, event_in_calm, carried_trapped, carried_refused}
 use Rattle.kept_parts.specs.declared.reach.Reach.{Reach}
 use Rattle.kept_parts.specs.declared.reach.Reach.TheVariants.{Own, Whole}
 use Rattle.kept_parts.specs.declared.served.Served.{Served}

@@ -14,13 +14,13 @@ use Rattle.vfork_exec.specs.Procs.{CanRun}
 use Rattle.machine_world.specs.World.{World}
 use Rattle.machine_world.specs.Event.{Outcome, went, strays, full, idle, noted, stray_in, stray, event}
 use Rattle.machine_world.specs.Turns.{seen_of}
-use Rattle.physical_turns.specs.Physical.{Physical, After as Outcome_in, after as goes, no_room, nobody, has_stray, first_stray_in, with_stray, event_in, turn_in, WalkIn}
-use Rattle.physical_turns.specs.Courses.{LeadsIn, StandsIn}
-use Rattle.physical_turns.specs.After.{AfterHas}
-use Rattle.physical_turns.specs.Growth.{Adds}
-use Rattle.physical_turns.proofs.Growth.{events_add, turns_add}
-use Rattle.physical_turns.proofs.Moves.{noted_unstrayed, first_strays}
-use Rattle.physical_turns.proofs.TurnsIn.{leads_in_event, turn_in_used}
+use Rattle.memory_world.specs.Physical.{Physical, After as Outcome_in, after as goes, no_room, nobody, has_stray, first_stray_in, with_stray, event_in, turn_in, WalkIn}
+use Rattle.memory_world.specs.Courses.{LeadsIn, StandsIn}
+use Rattle.memory_world.specs.After.{AfterHas}
+use Rattle.memory_world.specs.Growth.{Adds}
+use Rattle.memory_world.proofs.Growth.{events_add, turns_add}
+use Rattle.memory_world.proofs.Moves.{noted_unstrayed, first_strays}
+use Rattle.memory_world.proofs.TurnsIn.{leads_in_event, turn_in_used}
 use Rattle.kept_parts.specs.declared.reach.Reach.{Reach}
 use Rattle.kept_parts.specs.declared.reach.Reach.TheVariants.{Own, Whole}
 use Rattle.kept_parts.specs.Copies.{HoldsFiles}

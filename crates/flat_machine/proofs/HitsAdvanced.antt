@@ -17,11 +17,11 @@ use Rattle.machine_world.specs.World.{LiveSpace}
 use Rattle.machine_world.specs.Turns.{Walk, turn}
 use Rattle.machine_world.specs.Courses.{Leads}
 use Rattle.machine_world.proofs.TurnLaws.{turn_used}
-use Rattle.physical_turns.specs.Physical.{Physical, in_memory, turn_in, has_stray}
-use Rattle.physical_turns.specs.Physical.{WalkIn}
-use Rattle.physical_turns.specs.Wider.{IsWithin}
-use Rattle.physical_turns.specs.Courses.{LeadsIn}
-use Rattle.physical_turns.proofs.TurnsIn.{turn_in_used}
+use Rattle.memory_world.specs.Physical.{Physical, in_memory, turn_in, has_stray}
+use Rattle.memory_world.specs.Physical.{WalkIn}
+use Rattle.memory_world.specs.Wider.{IsWithin}
+use Rattle.memory_world.specs.Courses.{LeadsIn}
+use Rattle.memory_world.proofs.TurnsIn.{turn_in_used}
 use Rattle.kept_parts.specs.declared.task.Task.{Task}
 use Rattle.kept_parts.specs.declared.reach.Reach.{Reach}
 use Rattle.kept_parts.specs.declared.reach.Reach.TheVariants.{Own, Whole}

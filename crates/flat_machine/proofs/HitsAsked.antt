@@ -17,8 +17,8 @@ use Rattle.mmap_rules.specs.Space.{all_pass}
 use Rattle.region_watch.specs.Private.{only}
 use Rattle.region_watch.specs.Instructions.{Ran, goes_on, instructions, asked_behind, all_asked}
 use Rattle.region_watch.proofs.Maps.{number-only}
-use Rattle.physical_turns.specs.Wider.{IsWithin, Widens}
-use Rattle.physical_turns.proofs.Widened.{wide_meaning}
+use Rattle.memory_world.specs.Wider.{IsWithin, Widens}
+use Rattle.memory_world.proofs.Widened.{wide_meaning}
 use Rattle.watch_points.specs.declared.hits.Hit.{Hit}
 use Rattle.watch_points.specs.declared.point.PointKind.{PointKind}
 use Rattle.watch_points.specs.declared.span.Span.{Span}

@@ -17,11 +17,11 @@ use Rattle.machine_world.specs.Turns.{Walk, seen_of, turn}
 use Rattle.machine_world.specs.Courses.{StandsAt, moved}
 use Rattle.machine_world.proofs.States.{with_regs, with_own, lives_moved, has_moved, event_is}
 use Rattle.machine_world.proofs.TurnLaws.{turn_next}
-use Rattle.physical_turns.specs.Physical.{Physical, After, after as goes, in_memory, shown_space, moved_in, effect_in, next_meaning, carried_out, first_stray_in, with_stray, event_in, turn_in}
-use Rattle.physical_turns.specs.Physical.{WalkIn}
-use Rattle.physical_turns.specs.Courses.{StandsIn}
-use Rattle.physical_turns.proofs.Moves.{lives_in, has_in, event_in_is, event_in_strays, carried_is}
-use Rattle.physical_turns.proofs.TurnsIn.{turn_in_next}
+use Rattle.memory_world.specs.Physical.{Physical, After, after as goes, in_memory, shown_space, moved_in, effect_in, next_meaning, carried_out, first_stray_in, with_stray, event_in, turn_in}
+use Rattle.memory_world.specs.Physical.{WalkIn}
+use Rattle.memory_world.specs.Courses.{StandsIn}
+use Rattle.memory_world.proofs.Moves.{lives_in, has_in, event_in_is, event_in_strays, carried_is}
+use Rattle.memory_world.proofs.TurnsIn.{turn_in_next}
 use Rattle.watch_points.specs.declared.hits.Hit.{Hit}
 use Rattle.watch_points.specs.declared.point.PointKind.{PointKind}
 use Rattle.watch_points.specs.declared.span.Span.{Span}

@@ -6,10 +6,10 @@ use Rattle.quantum_sched.specs.declared.Quantum.{Quantum}
 use Rattle.quantum_sched.specs.Picked.{picked}
 use Rattle.machine_world.specs.Families.{ready_pids}
 use Rattle.machine_world.specs.Turns.{End, log_full}
-use Rattle.physical_turns.specs.Physical.{Physical, turn_in, remains_at_in}
-use Rattle.physical_turns.specs.Physical.{WalkIn}
-use Rattle.physical_turns.specs.Courses.{ComesIn}
-use Rattle.physical_turns.proofs.TurnsIn.{comes_in_none, comes_in_on}
+use Rattle.memory_world.specs.Physical.{Physical, turn_in, remains_at_in}
+use Rattle.memory_world.specs.Physical.{WalkIn}
+use Rattle.memory_world.specs.Courses.{ComesIn}
+use Rattle.memory_world.proofs.TurnsIn.{comes_in_none, comes_in_on}
 use Rattle.watch_points.specs.declared.hits.Hit.{Hit}
 use Rattle.watch_points.specs.declared.point.PointKind.{PointKind}
 use Rattle.watch_points.specs.declared.span.Span.{Span}

@@ -8,7 +8,7 @@ use Rattle.bflt_format.specs.Values.{Values}
 use Rattle.machine_world.specs.World.{World}
 use Rattle.machine_world.specs.Event.{Outcome, went, strays, full, idle, event}
 use Rattle.machine_world.specs.Courses.{StandsAt}
-use Rattle.physical_turns.specs.Physical.{Physical}
+use Rattle.memory_world.specs.Physical.{Physical}
 use Rattle.kept_parts.specs.Flats.{AreFlats}
 use Rattle.kept_parts.specs.Kept.{Kept}
 use Rattle.kept_parts.specs.Stands.{About, later, world_of}

@@ -8,8 +8,8 @@ use Rattle.machine_world.specs.Event.{Trace, went, ended, ask_of, event}
 use Rattle.machine_world.specs.Rows.{row}
 use Rattle.machine_world.proofs.Kept.{Answers}
 use Rattle.machine_world.proofs.ByEvents.{Answered, Happened, Keeps, by_event}
-use Rattle.physical_turns.specs.Physical.{has_stray}
-use Rattle.physical_turns.specs.Growth.{Adds}
+use Rattle.memory_world.specs.Physical.{has_stray}
+use Rattle.memory_world.specs.Growth.{Adds}
 
 abbrev Quiet : World → Type 0
 Quiet w = has_stray w.notes ≡ false

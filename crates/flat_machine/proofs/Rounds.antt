@@ -18,11 +18,11 @@ use Rattle.machine_world.specs.Courses.{Comes}
 use Rattle.machine_world.proofs.RunLaws.{comes_none, comes_on, none_chosen, none_left, turn_stops, turn_comes}
 use Rattle.flat_machine.specs.declared.run.End.{End as Told}
 use Rattle.flat_machine.specs.declared.run.End.TheVariants as told
-use Rattle.stays_laws.specs.Stays.{AreRight, stays_along}
-use Rattle.stays_laws.specs.Sound.{IsSound}
+use Rattle.alone_laws.specs.Stays.{AreRight, stays_along}
+use Rattle.alone_laws.specs.Sound.{IsSound}
 use Rattle.waits_laws.specs.Laws.{IsOrdered}
 use Rattle.waits_laws.proofs.Ordered.{turns_keep_ordered}
-use Rattle.stays_laws.proofs.StaysRuns.{runs_keep_stays}
+use Rattle.alone_laws.proofs.StaysRuns.{runs_keep_stays}
 use Rattle.flat_machine.specs.Runs.{repeated, Ends, Stops, Runs, gone_through, KeepsStays}
 use Rattle.flat_machine.specs.State.{State, world}
 use Rattle.kept_parts.specs.Kept.{Kept}

@@ -11,12 +11,12 @@ use Rattle.machine_world.specs.Families.{ready_pids}
 use Rattle.machine_world.specs.Turns.{stray_at, log_full, Walk, none_runs, turn, turns, walked}
 use Rattle.machine_world.specs.Courses.{Comes}
 use Rattle.machine_world.proofs.RunLaws.{none_left, turn_stops}
-use Rattle.physical_turns.specs.Physical.{Physical, has_stray, turns_in, remains_at_in}
-use Rattle.physical_turns.specs.Physical.{WalkIn}
-use Rattle.physical_turns.specs.Courses.{ComesIn}
-use Rattle.physical_turns.specs.Growth.{Adds}
-use Rattle.physical_turns.proofs.Growth.{runs_add}
-use Rattle.physical_turns.proofs.TurnsIn.{comes_in_on, none_chosen_in, turn_in_stops, turn_in_comes, none_left_in, comes_in_none}
+use Rattle.memory_world.specs.Physical.{Physical, has_stray, turns_in, remains_at_in}
+use Rattle.memory_world.specs.Physical.{WalkIn}
+use Rattle.memory_world.specs.Courses.{ComesIn}
+use Rattle.memory_world.specs.Growth.{Adds}
+use Rattle.memory_world.proofs.Growth.{runs_add}
+use Rattle.memory_world.proofs.TurnsIn.{comes_in_on, none_chosen_in, turn_in_stops, turn_in_comes, none_left_in, comes_in_none}
 use Rattle.kept_parts.specs.InMemory.{physical_of}
 use Rattle.flat_machine.specs.declared.run.End.{End as Told}
 use Rattle.flat_machine.specs.declared.run.End.TheVariants as told

@@ -36,8 +36,8 @@ use Rattle.machine_world.specs.Event.{Outcome, went, strays, full, idle, number_
 use Rattle.machine_world.proofs.States.{find_has}
 use Rattle.machine_world.proofs.Awake.{may_run_awake}
 use Rattle.machine_world.proofs.Chains.{find_exec_own}
-use Rattle.physical_turns.specs.Physical.{Physical, in_memory, After, after, no_room, nobody, carried, settled_in, outside, killed, put_in, answered_in, full_at, reaped_in, waitid_behind_in, waitid_in, writes_nothing, classed_in, asked_in, answer_in, effect_in, next_meaning, carried_out}
-use Rattle.physical_turns.proofs.Moves.{carried_is}
+use Rattle.memory_world.specs.Physical.{Physical, in_memory, After, after, no_room, nobody, carried, settled_in, outside, killed, put_in, answered_in, full_at, reaped_in, waitid_behind_in, waitid_in, writes_nothing, classed_in, asked_in, answer_in, effect_in, next_meaning, carried_out}
+use Rattle.memory_world.proofs.Moves.{carried_is}
 
 -- ---- what each act leaves
 

@@ -8,9 +8,9 @@ use Rattle.vfork_exec.specs.Keyed.{find}
 use Rattle.machine_world.specs.World.{Process, LiveSpace, World, pid_of, id_of}
 use Rattle.machine_world.specs.Families.{MayRun}
 use Rattle.machine_world.specs.Event.{Outcome, effect, in_space, by_process, at_process, event, stray_in, stray}
-use Rattle.physical_turns.specs.Physical.{Physical, After, after, no_room, nobody, has_stray, first_stray_in, with_stray, event_in, carried_out, turn_in, turned_in, WalkIn}
-use Rattle.physical_turns.proofs.Moves.{noted_unstrayed, event_in_strays, event_in_calm}
-use Rattle.physical_turns.proofs.TurnsIn.{turn_in_next}
+use Rattle.memory_world.specs.Physical.{Physical, After, after, no_room, nobody, has_stray, first_stray_in, with_stray, event_in, carried_out, turn_in, turned_in, WalkIn}
+use Rattle.memory_world.proofs.Moves.{noted_unstrayed, event_in_strays, event_in_calm}
+use Rattle.memory_world.proofs.TurnsIn.{turn_in_next}
 use Rattle.flat_machine.proofs.StillIn.{StillIn, still_in}
 
 -- its access was noted, and nothing of it was carried out

@@ -15,9 +15,9 @@ use Rattle.machine_world.specs.World.{World, Process}
 use Rattle.machine_world.specs.Event.{Outcome, went, strays, full, idle, event}
 use Rattle.machine_world.specs.Turns.{log_full}
 use Rattle.machine_world.specs.Courses.{EndsAs, StandsAt}
-use Rattle.physical_turns.specs.Physical.{Physical, has_stray, next_meaning, turn_in, remains_at_in}
-use Rattle.physical_turns.specs.Courses.{LeadsIn, StandsIn}
-use Rattle.physical_turns.proofs.TurnsIn.{leads_in_none, leads_in_on, turn_in_over, turn_in_full, turn_in_used, turn_in_from}
+use Rattle.memory_world.specs.Physical.{Physical, has_stray, next_meaning, turn_in, remains_at_in}
+use Rattle.memory_world.specs.Courses.{LeadsIn, StandsIn}
+use Rattle.memory_world.proofs.TurnsIn.{leads_in_none, leads_in_on, turn_in_over, turn_in_full, turn_in_used, turn_in_from}
 use Rattle.kept_parts.specs.declared.reach.Reach.{Reach}
 use Rattle.kept_parts.specs.declared.reach.Reach.TheVariants.{Own, Whole}
 use Rattle.kept_parts.specs.Reach.{reach_of}

@@ -9,9 +9,9 @@ use Rattle.vfork_exec.specs.Procs.{CanRun}
 use Rattle.machine_world.specs.World.{World}
 use Rattle.machine_world.specs.Programs.{AreLoaded}
 use Rattle.waits_laws.specs.Laws.{IsOrdered}
-use Rattle.physical_turns.specs.Physical.{Physical, has_stray, turn_in, WalkIn}
-use Rattle.physical_turns.specs.Growth.{Adds}
-use Rattle.physical_turns.proofs.Growth.{turns_add, turns_leave_programs}
+use Rattle.memory_world.specs.Physical.{Physical, has_stray, turn_in, WalkIn}
+use Rattle.memory_world.specs.Growth.{Adds}
+use Rattle.memory_world.proofs.Growth.{turns_add, turns_leave_programs}
 use Rattle.kept_parts.specs.Copies.{HoldsFiles}
 use Rattle.kept_parts.specs.Flats.{AreFlats}
 use Rattle.kept_parts.specs.Kept.{Kept}

@@ -13,9 +13,9 @@ use Rattle.machine_world.specs.World.{World}
 use Rattle.machine_world.specs.Event.{Outcome, went, strays, full, idle, event}
 use Rattle.machine_world.specs.Turns.{turn}
 use Rattle.machine_world.specs.Courses.{Leads, StandsAt}
-use Rattle.physical_turns.specs.Physical.{Physical, has_stray}
-use Rattle.physical_turns.specs.Courses.{LeadsIn}
-use Rattle.physical_turns.specs.Growth.{Adds}
+use Rattle.memory_world.specs.Physical.{Physical, has_stray}
+use Rattle.memory_world.specs.Courses.{LeadsIn}
+use Rattle.memory_world.specs.Growth.{Adds}
 use Rattle.kept_parts.specs.Flats.{AreFlats}
 use Rattle.kept_parts.specs.Kept.{Kept}
 use Rattle.kept_parts.specs.Stands.{About, later, world_of}

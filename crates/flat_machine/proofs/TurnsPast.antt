@@ -9,12 +9,12 @@ use Rattle.machine_world.specs.World.{World}
 use Rattle.machine_world.specs.Event.{Outcome, went, strays, full, idle, noted, event}
 use Rattle.machine_world.specs.Turns.{Walk, stray_at, seen_of, remains_at, turn, walked}
 use Rattle.machine_world.proofs.TurnLaws.{turn_strays, turn_from}
-use Rattle.physical_turns.specs.Physical.{has_stray}
-use Rattle.physical_turns.specs.Physical.{WalkIn}
-use Rattle.physical_turns.specs.Courses.{LeadsIn}
-use Rattle.physical_turns.specs.Growth.{Adds}
-use Rattle.physical_turns.proofs.Growth.{turns_add}
-use Rattle.physical_turns.proofs.TurnsIn.{turn_in_used}
+use Rattle.memory_world.specs.Physical.{has_stray}
+use Rattle.memory_world.specs.Physical.{WalkIn}
+use Rattle.memory_world.specs.Courses.{LeadsIn}
+use Rattle.memory_world.specs.Growth.{Adds}
+use Rattle.memory_world.proofs.Growth.{turns_add}
+use Rattle.memory_world.proofs.TurnsIn.{turn_in_used}
 use Rattle.kept_parts.specs.Flats.{AreFlats}
 use Rattle.kept_parts.specs.Kept.{Kept}
 use Rattle.kept_parts.specs.Stands.{About, later, world_of}

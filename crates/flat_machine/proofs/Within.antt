@@ -9,7 +9,7 @@ use Rattle.mmap_rules.specs.declared.mapping.Mapping.{Mapping}
 use Rattle.mmap_rules.specs.declared.owners.PageOwner.{PageOwner}
 use Rattle.mmap_rules.specs.Space.{in_range, own_in, writable_in}
 use Rattle.mmap_rules.specs.Owners.{owns_at, owns}
-use Rattle.physical_turns.specs.Wider.{IsWithin}
+use Rattle.memory_world.specs.Wider.{IsWithin}
 use Rattle.region_watch.specs.Private.{in_pages}
 
 -- what may be written is own

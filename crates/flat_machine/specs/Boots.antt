@@ -6,7 +6,7 @@ use Rattle.machine_world.specs.World.{Rest, World}
 use Rattle.machine_world.specs.Boot.{StartLine, BootFault, bad_start, args_too_big, no_run, empty_world}
 use Rattle.flat_machine.specs.declared.boot.BootRefusal.{BootRefusal}
 use Rattle.flat_machine.specs.declared.boot.BootRefusal.TheVariants as refusal
-use Rattle.stays_laws.specs.Stays.{AreRight, first_stays}
+use Rattle.alone_laws.specs.Stays.{AreRight, first_stays}
 use Rattle.waits_laws.specs.Waits.{WaitsWell}
 use Rattle.kept_parts.specs.Kept.{Kept}
 use Rattle.kept_parts.specs.Stands.{About, world_of}

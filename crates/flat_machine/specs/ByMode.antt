@@ -6,7 +6,7 @@ use Rattle.page_runs.specs.declared.place.Kind.{Kind}
 use Rattle.bflt_format.specs.Values.{Values}
 use Rattle.quantum_sched.specs.declared.Quantum.{Quantum}
 use Rattle.machine_world.specs.Event.{event}
-use Rattle.physical_turns.specs.Physical.{has_stray}
+use Rattle.memory_world.specs.Physical.{has_stray}
 use Rattle.kept_parts.specs.Copies.{HoldsFiles}
 use Rattle.kept_parts.specs.Flats.{ForRuns}
 use Rattle.kept_parts.specs.InMemory.{headers_of, physical_of}

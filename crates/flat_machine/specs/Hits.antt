@@ -11,7 +11,7 @@ use Rattle.machine_world.specs.World.{World, Process, LiveSpace, pid_of, id_of}
 use Rattle.machine_world.specs.Families.{ready_pids}
 use Rattle.machine_world.specs.Event.{Outcome, went, strays, full, idle, event}
 use Rattle.machine_world.specs.Turns.{End, turn}
-use Rattle.physical_turns.specs.Physical.{Physical, After, after, no_room, nobody, in_memory, event_in, turn_in}
+use Rattle.memory_world.specs.Physical.{Physical, After, after, no_room, nobody, in_memory, event_in, turn_in}
 use Rattle.watch_points.specs.declared.hits.Hit.{Hit}
 use Rattle.watch_points.specs.declared.point.PointKind.{PointKind}
 use Rattle.watch_points.specs.declared.span.Span.{Span}

@@ -4,7 +4,7 @@ use Rattle.std.specs.declared.alloc.AllocError.{AllocError}
 use Rattle.quantum_sched.specs.declared.Quantum.{Quantum}
 use Rattle.call_log.specs.declared.how.Seen.{Seen}
 use Rattle.machine_world.specs.World.{World}
-use Rattle.physical_turns.specs.Physical.{Physical}
+use Rattle.memory_world.specs.Physical.{Physical}
 use Rattle.syscall_layer.specs.Parts.{halted_at}
 use Rattle.watch_points.specs.declared.hits.Hit.{Hit}
 use Rattle.watch_points.specs.declared.point.PointKind.{PointKind}

@@ -4,7 +4,7 @@ use Rattle.call_log.specs.Programs.{paths_of}
 use Rattle.machine_world.specs.Programs.{AreLoaded}
 use Rattle.flat_machine.specs.declared.machine.Machine.TheInside.{Inside}
 use Rattle.waits_laws.specs.Laws.{IsOrdered}
-use Rattle.physical_turns.specs.Physical.{has_stray}
+use Rattle.memory_world.specs.Physical.{has_stray}
 use Rattle.kept_parts.specs.Reach.{reach_of}
 use Rattle.flat_machine.specs.State.{State, is_whole, world}
 

@@ -8,7 +8,7 @@ use Rattle.machine_world.specs.World.{World}
 use Rattle.machine_world.specs.Event.{Outcome, went, strays, full, noted}
 use Rattle.machine_world.specs.Turns.{seen_of, turn, turns}
 use Rattle.machine_world.specs.Courses.{Comes}
-use Rattle.physical_turns.specs.Growth.{Adds}
+use Rattle.memory_world.specs.Growth.{Adds}
 use Rattle.kept_parts.specs.Kept.{Kept}
 use Rattle.kept_parts.specs.Stands.{About, later, world_of}
 use Rattle.flat_machine.specs.declared.run.End.{End as Told}

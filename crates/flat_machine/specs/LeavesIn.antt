@@ -15,9 +15,9 @@ use Rattle.vfork_exec.specs.Procs.{CanRun}
 use Rattle.machine_world.specs.Families.{ready_pids}
 use Rattle.machine_world.specs.World.{World, Process, LiveSpace, pid_of, id_of}
 use Rattle.machine_world.specs.Turns.{End, Walk, stray_at, log_full, turn, turns}
-use Rattle.physical_turns.specs.Physical.{Physical, After as Outcome, after as goes, no_room, has_stray, next_meaning, first_stray_in, event_in, turn_in, turns_in}
-use Rattle.physical_turns.specs.Courses.{LeadsIn, ComesIn, StandsIn}
-use Rattle.physical_turns.specs.Growth.{Adds}
+use Rattle.memory_world.specs.Physical.{Physical, After as Outcome, after as goes, no_room, has_stray, next_meaning, first_stray_in, event_in, turn_in, turns_in}
+use Rattle.memory_world.specs.Courses.{LeadsIn, ComesIn, StandsIn}
+use Rattle.memory_world.specs.Growth.{Adds}
 use Rattle.kept_parts.specs.declared.reach.Reach.{Reach}
 use Rattle.kept_parts.specs.declared.reach.Reach.TheVariants.{Own}
 use Rattle.kept_parts.specs.Kept.{Kept}

@@ -2,7 +2,7 @@
 use Rattle.std.specs.Prelude.{ℕ, List, Option, Some, None, Result, Ok, Err}
 use Rattle.vfork_exec.specs.Keyed.{find}
 use Rattle.call_log.specs.Sent.{Span, read_span}
-use Rattle.physical_turns.specs.Physical.{Physical}
+use Rattle.memory_world.specs.Physical.{Physical}
 use Rattle.machine_world.specs.World.{World, Process, LiveSpace, pid_of, id_of}
 
 abbrev pub read_or_none : Result (List ℕ) Span → Option (List ℕ)

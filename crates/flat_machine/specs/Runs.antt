@@ -12,7 +12,7 @@ use Rattle.machine_world.specs.World.{World, Process, LiveSpace, pid_of, id_of}
 use Rattle.machine_world.specs.Families.{ready_pids}
 use Rattle.machine_world.specs.Courses.{Comes}
 use Rattle.machine_world.specs.Turns.{End, all_ended, stuck, out_of_quanta, stray_at, log_full, turn, turns}
-use Rattle.stays_laws.specs.Stays.{Stay, AreRight, stays_along}
+use Rattle.alone_laws.specs.Stays.{Stay, AreRight, stays_along}
 use Rattle.waits_laws.specs.Waits.{WaitsWell}
 use Rattle.waits_laws.specs.Laws.{WaitsOrLent}
 use Rattle.flat_machine.specs.declared.run.End.{End as Told}

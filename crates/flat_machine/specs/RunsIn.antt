@@ -4,7 +4,7 @@ use Rattle.std.specs.declared.alloc.AllocError.{AllocError}
 use Rattle.quantum_sched.specs.declared.Quantum.{Quantum}
 use Rattle.call_log.specs.declared.how.Seen.{Seen}
 use Rattle.machine_world.specs.Turns.{seen_of, turns}
-use Rattle.physical_turns.specs.Physical.{has_stray, turns_in}
+use Rattle.memory_world.specs.Physical.{has_stray, turns_in}
 use Rattle.flat_machine.specs.declared.run.End.{End as Told}
 use Rattle.flat_machine.specs.declared.run.End.TheVariants as told
 use Rattle.region_watch.specs.declared.mode.Mode.TheVariants.{Halt}

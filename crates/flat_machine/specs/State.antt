@@ -16,7 +16,7 @@ use Rattle.kept_parts.specs.Stands.{About, world_of}
 use Rattle.kept_parts.specs.InMemory.{headers_of, physical_of}
 use Rattle.kept_parts.specs.declared.reach.Reach.{Reach}
 use Rattle.kept_parts.specs.declared.reach.Reach.TheVariants.{Own, Whole}
-use Rattle.physical_turns.specs.Physical.{Physical}
+use Rattle.memory_world.specs.Physical.{Physical}
 use Rattle.region_watch.specs.declared.mode.Mode.{Mode}
 use Rattle.region_watch.specs.declared.mode.Mode.TheVariants.{Halt, GoOn}
 

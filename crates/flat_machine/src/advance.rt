@@ -4,8 +4,8 @@ ghost use Rattle.std.specs.Prelude.{◌≡◌, ◌≤◌, ℕ, true, List, lengt
 ghost use Rattle.mmap_rules.specs.Space.{writable_in, may_use};
 ghost use Rattle.vfork_exec.specs.Procs.{CanRun};
 ghost use Rattle.machine_world.specs.Courses.{Leads, Halts};
-ghost use Rattle.physical_turns.specs.Physical.{has_stray};
-ghost use Rattle.physical_turns.specs.Courses.{LeadsIn};
+ghost use Rattle.memory_world.specs.Physical.{has_stray};
+ghost use Rattle.memory_world.specs.Courses.{LeadsIn};
 ghost use Rattle.kept_parts.specs.declared.reach.Reach.TheVariants.{Own};
 ghost use Rattle.kept_parts.specs.InMemory.{physical_of};
 ghost use Rattle.kept_parts.specs.Stands.{About, later, world_of};

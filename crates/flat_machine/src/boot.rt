@@ -9,7 +9,7 @@ ghost use Rattle.kept_parts.specs.Stands.{world_of};
 ghost use Rattle.page_runs.specs.Choosers.{IsChooser, kind_of};
 ghost use Rattle.machine_world.specs.Boot.{boot, started};
 ghost use Rattle.manifest_text.specs.declared.manifest.Start.{Start as StartItem};
-ghost use Rattle.physical_turns.specs.Physical.{has_stray, opening_in};
+ghost use Rattle.memory_world.specs.Physical.{has_stray, opening_in};
 ghost use Rattle.kept_parts.specs.InMemory.{headers_of, LaysOn};
 ghost use Rattle.flat_machine.specs.State.{world, one_memory, rest_of, line_of, lines_of, about_boot};
 ghost use Rattle.flat_machine.specs.Boots.{marked, Boots, Begins, BeginsStays, BeginsWaits};

@@ -8,7 +8,7 @@ ghost use Rattle.nommu_regions.specs.Regions.{free_of};
 ghost use Rattle.machine_world.specs.World.{program_path};
 ghost use Rattle.machine_world.specs.Free.{free};
 ghost use Rattle.machine_world.specs.Programs.{AreLoaded};
-ghost use Rattle.physical_turns.specs.Physical.{has_stray};
+ghost use Rattle.memory_world.specs.Physical.{has_stray};
 ghost use Rattle.waits_laws.specs.Laws.{IsOrdered};
 ghost use Rattle.recorded_items.specs.Recorded.{recorded};
 ghost use Rattle.kept_parts.specs.Copies.{KnowsFiles};

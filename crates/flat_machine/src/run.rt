@@ -7,7 +7,7 @@ ghost use Rattle.quantum_sched.specs.Picked.{picked};
 ghost use Rattle.machine_world.specs.Families.{ready_pids};
 ghost use Rattle.machine_world.specs.Turns.{none_runs, turns};
 ghost use Rattle.kept_parts.specs.Stands.{About, world_of};
-ghost use Rattle.physical_turns.specs.Physical.{has_stray};
+ghost use Rattle.memory_world.specs.Physical.{has_stray};
 ghost use Rattle.region_watch.specs.declared.mode.Mode.TheVariants.{Halt, GoOn};
 ghost use Rattle.flat_machine.specs.State.{world, one_memory};
 ghost use Rattle.kept_parts.specs.Copies.{HoldsFiles};

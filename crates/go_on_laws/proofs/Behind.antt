@@ -16,11 +16,11 @@ use Rattle.machine_world.specs.World.{LiveSpace, World, id_of}
 use Rattle.machine_world.specs.Event.{Trace, Outcome, went, strays, full, idle, awake, settled}
 use Rattle.machine_world.specs.Ages.{Follows}
 use Rattle.machine_world.proofs.States.{with_own}
-use Rattle.stays_laws.specs.Sound.{copied_byte, HoldsSource, IsSound}
-use Rattle.stays_laws.proofs.Moved.{by_changed}
-use Rattle.physical_turns.specs.Physical.{Physical, in_memory, shown_space, After, after, no_room, nobody, carried, settled_in}
-use Rattle.physical_turns.proofs.InMemory.{space_shows, plain_behind}
-use Rattle.physical_turns.proofs.Moves.{own_now}
+use Rattle.alone_laws.specs.Sound.{copied_byte, HoldsSource, IsSound}
+use Rattle.alone_laws.proofs.Moved.{by_changed}
+use Rattle.memory_world.specs.Physical.{Physical, in_memory, shown_space, After, after, no_room, nobody, carried, settled_in}
+use Rattle.memory_world.proofs.InMemory.{space_shows, plain_behind}
+use Rattle.memory_world.proofs.Moves.{own_now}
 use Rattle.go_on_laws.specs.Alike.{in_pages, HoldsPages, Stands}
 
 -- ---- a copy

@@ -18,13 +18,13 @@ use Rattle.vfork_exec.proofs.Keyed.{find_head}
 use Rattle.machine_world.specs.World.{LiveSpace, Rest, World, id_of}
 use Rattle.machine_world.specs.Free.{free}
 use Rattle.machine_world.specs.Boot.{StartLine, BootFault, Found, found, start_path, begun, address_of, taken, placed, fitting, located, started, all_started, then_started, empty_world, boot}
-use Rattle.stays_laws.specs.Sound.{most_given, IsSound}
-use Rattle.stays_laws.specs.Laws.{CanBoot}
-use Rattle.stays_laws.proofs.SharedPages.{IsFree}
-use Rattle.stays_laws.proofs.SoundBegins.{pages_free, begun_sound, boots_are_sound}
-use Rattle.physical_turns.specs.Physical.{in_memory, or_below, over, bytes_in, headed, has_stray, zeros, all_headed, first_memory, opening_in}
-use Rattle.physical_turns.proofs.InMemory.{showing_shown}
-use Rattle.physical_turns.proofs.Shows.{openings_show}
+use Rattle.alone_laws.specs.Sound.{most_given, IsSound}
+use Rattle.alone_laws.specs.Laws.{CanBoot}
+use Rattle.alone_laws.proofs.SharedPages.{IsFree}
+use Rattle.alone_laws.proofs.SoundBegins.{pages_free, begun_sound, boots_are_sound}
+use Rattle.memory_world.specs.Physical.{in_memory, or_below, over, bytes_in, headed, has_stray, zeros, all_headed, first_memory, opening_in}
+use Rattle.memory_world.proofs.InMemory.{showing_shown}
+use Rattle.memory_world.proofs.Shows.{openings_show}
 use Rattle.go_on_laws.specs.Alike.{AreHeaders, HoldsPages, Stands}
 use Rattle.go_on_laws.specs.Laws.{BootsGoOn, BootsNoteNoStray}
 use Rattle.go_on_laws.proofs.Pages.{own_not_free}

@@ -30,8 +30,8 @@ use Rattle.machine_world.specs.PathCalls.{path_of}
 use Rattle.machine_world.specs.Rows.{row}
 use Rattle.machine_world.specs.Recordings.{room_in}
 use Rattle.machine_world.specs.Event.{Outcome, went, strays, full, idle, number_of, args_of, ask_of, trapped, room_for, served, waited, answered, exited, is_exit, waitid, told_in, forked, cloned, executed, exec_at, exec_program, exec_strings, exec, classed}
-use Rattle.physical_turns.specs.Physical.{Physical, in_memory, After, after, no_room, nobody, carried, settled_in, killed, put_in, answered_in, full_at, reaped_in, waitid_behind_in, waitid_in, writes_nothing, classed_in, asked_in, answer_in, effect_in, next_meaning, carried_out}
-use Rattle.physical_turns.proofs.Moves.{carried_is}
+use Rattle.memory_world.specs.Physical.{Physical, in_memory, After, after, no_room, nobody, carried, settled_in, killed, put_in, answered_in, full_at, reaped_in, waitid_behind_in, waitid_in, writes_nothing, classed_in, asked_in, answer_in, effect_in, next_meaning, carried_out}
+use Rattle.memory_world.proofs.Moves.{carried_is}
 
 -- it is made in the world of private spaces, or over one memory
 abbrev Happens : Outcome → Type 0

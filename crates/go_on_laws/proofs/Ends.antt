@@ -19,10 +19,10 @@ use Rattle.machine_world.specs.Asks.{Ask, Reply, arg, refuses}
 use Rattle.machine_world.specs.FamilyCalls.{who_of, waitid_fault, child_info, no_info, info_at, vfork_flags}
 use Rattle.machine_world.specs.Recordings.{room_in}
 use Rattle.machine_world.specs.Event.{Outcome, went, strays, full, idle, trapped, ended, ask_of, room_for, served, waited, answered, exited, reaped, told_in, waitid_behind, waitid, forked, cloned}
-use Rattle.stays_laws.specs.Sound.{IsSound}
-use Rattle.stays_laws.proofs.Moved.{ended_sound}
-use Rattle.stays_laws.proofs.SpacesLeft.{falls_spaces, space_was}
-use Rattle.physical_turns.specs.Physical.{Physical, After, carried, killed, full_at, reaped_in, waitid_behind_in, waitid_in}
+use Rattle.alone_laws.specs.Sound.{IsSound}
+use Rattle.alone_laws.proofs.Moved.{ended_sound}
+use Rattle.alone_laws.proofs.SpacesLeft.{falls_spaces, space_was}
+use Rattle.memory_world.specs.Physical.{Physical, After, carried, killed, full_at, reaped_in, waitid_behind_in, waitid_in}
 use Rattle.go_on_laws.specs.Alike.{Stands}
 use Rattle.go_on_laws.proofs.Behind.{Behind, Goes, goes_carried, goes_room, came_plain, is_in, behind_some, behind_same, behind_put}
 use Rattle.go_on_laws.proofs.Writes.{goes_gives, goes_refuses}

@@ -15,16 +15,16 @@ use Rattle.machine_world.specs.Rows.{row}
 use Rattle.machine_world.specs.Event.{Trace, Outcome, went, full, number_of, args_of, ask_of, answered, exited, is_exit, waitid, cloned, exec, classed, asked, answer, effect, in_space, by_process, at_process, event, stray_in, stray}
 use Rattle.machine_world.specs.Ages.{Follows, most_changes, kept_calls, most_at_boot}
 use Rattle.machine_world.proofs.Aging.{events_age_files}
-use Rattle.stays_laws.specs.Sound.{IsSound}
-use Rattle.stays_laws.proofs.RowSpaces.{LeavesSpace, row_leaves, row-munmap, row-mmap2}
-use Rattle.physical_turns.specs.Physical.{Physical, in_memory, shown_space, After, after, no_room, carried, answered_in, waitid_in, classed_in, asked_in, answer_in, effect_in, in_space_in, by_process_in, at_process_in, next_meaning, carried_out, has_stray, event_in}
-use Rattle.physical_turns.specs.Wider.{Widens}
-use Rattle.physical_turns.specs.After.{AfterHas}
-use Rattle.physical_turns.specs.Growth.{LeavesPrograms}
-use Rattle.physical_turns.proofs.Sub.{sent_sub}
-use Rattle.physical_turns.proofs.Widened.{wide_meaning}
-use Rattle.physical_turns.proofs.Moves.{event_in_calm}
-use Rattle.physical_turns.proofs.Growth.{events_leave_programs}
+use Rattle.alone_laws.specs.Sound.{IsSound}
+use Rattle.alone_laws.proofs.RowSpaces.{LeavesSpace, row_leaves, row-munmap, row-mmap2}
+use Rattle.memory_world.specs.Physical.{Physical, in_memory, shown_space, After, after, no_room, carried, answered_in, waitid_in, classed_in, asked_in, answer_in, effect_in, in_space_in, by_process_in, at_process_in, next_meaning, carried_out, has_stray, event_in}
+use Rattle.memory_world.specs.Wider.{Widens}
+use Rattle.memory_world.specs.After.{AfterHas}
+use Rattle.memory_world.specs.Growth.{LeavesPrograms}
+use Rattle.memory_world.proofs.Sub.{sent_sub}
+use Rattle.memory_world.proofs.Widened.{wide_meaning}
+use Rattle.memory_world.proofs.Moves.{event_in_calm}
+use Rattle.memory_world.proofs.Growth.{events_leave_programs}
 use Rattle.go_on_laws.specs.Alike.{AreHeaders, Stands}
 use Rattle.go_on_laws.specs.Laws.{Comes, LeadsTo, EventsGoOn, FullEventsGoOn}
 use Rattle.go_on_laws.proofs.Pages.{may_own, may_inside}

@@ -29,18 +29,18 @@ use Rattle.machine_world.specs.Asks.{Ask, arg, refuses}
 use Rattle.machine_world.specs.PathCalls.{path_of}
 use Rattle.machine_world.specs.Recordings.{room_in}
 use Rattle.machine_world.specs.Event.{Trace, counted_in, noted, ask_of, entry_of, plain_item, answered, with_exec, load_of, executed, exec_at, exec_program, exec_strings, exec}
-use Rattle.stays_laws.specs.Sound.{IsSound}
-use Rattle.stays_laws.proofs.SharedPages.{IsFree}
-use Rattle.stays_laws.proofs.SoundBegins.{some_pages, pages_free}
-use Rattle.stays_laws.proofs.SpacesLeft.{falls_spaces, space_was}
-use Rattle.physical_turns.specs.Physical.{Physical, in_memory, or_below, shown_space, bytes_in, is_free_at, headed, laid_behind, behind, after, carried}
+use Rattle.alone_laws.specs.Sound.{IsSound}
+use Rattle.alone_laws.proofs.SharedPages.{IsFree}
+use Rattle.alone_laws.proofs.SoundBegins.{some_pages, pages_free}
+use Rattle.alone_laws.proofs.SpacesLeft.{falls_spaces, space_was}
+use Rattle.memory_world.specs.Physical.{Physical, in_memory, or_below, shown_space, bytes_in, is_free_at, headed, laid_behind, behind, after, carried}
 use Rattle.go_on_laws.specs.Alike.{AreHeaders, Stands}
 use Rattle.go_on_laws.proofs.Pages.{not_free, own_not_free}
 use Rattle.go_on_laws.proofs.Behind.{HasSource, IsIn, in_elsewhere, Behind, behind_shown, Goes, goes_carried, goes_room, is_in}
 use Rattle.go_on_laws.proofs.Writes.{only_at, only_off, bytes_there}
 use Rattle.go_on_laws.proofs.Ends.{goes_refused}
 use Rattle.go_on_laws.proofs.Laid.{none_in, laid, laid_free, laid_some, laid_none, free_space}
-use Rattle.stays_laws.proofs.Bytes.{bytes_before, bytes_behind}
+use Rattle.alone_laws.proofs.Bytes.{bytes_before, bytes_behind}
 
 -- ---- a header
 

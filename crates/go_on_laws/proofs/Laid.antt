@@ -10,8 +10,8 @@ use Rattle.vfork_exec.specs.Keyed.{Falls, find, change}
 use Rattle.vfork_exec.proofs.Keyed.{find_head, find_later, find_below, change_head, eqb_same}
 use Rattle.machine_world.specs.World.{LiveSpace, World, id_of}
 use Rattle.machine_world.proofs.States.{with_own}
-use Rattle.stays_laws.specs.Sound.{IsSound}
-use Rattle.physical_turns.specs.Physical.{Physical, or_below, over, bytes_in, is_free_at}
+use Rattle.alone_laws.specs.Sound.{IsSound}
+use Rattle.memory_world.specs.Physical.{Physical, or_below, over, bytes_in, is_free_at}
 use Rattle.go_on_laws.specs.Alike.{Stands}
 use Rattle.go_on_laws.proofs.Pages.{own_not_free}
 use Rattle.go_on_laws.proofs.Behind.{is_in}

@@ -30,15 +30,15 @@ use Rattle.machine_world.specs.Asks.{Ask, arg, leaves, with_ok, view_of}
 use Rattle.machine_world.specs.MapCalls.{all_maps, in_copy, with_mapping, lowest, has_pages, shared, own_run, in_free_run, maps, or_own, mapped, file_side, mmap2_row}
 use Rattle.machine_world.specs.Event.{Trace, went, ask_of, answered}
 use Rattle.machine_world.proofs.States.{with_own}
-use Rattle.stays_laws.specs.Sound.{AreApart, HoldsSource, IsSound}
-use Rattle.stays_laws.proofs.AllMaps.{Around, around}
-use Rattle.stays_laws.proofs.Bytes.{bytes_inside, bytes_before, bytes_behind}
-use Rattle.stays_laws.proofs.FreePages.{each_of_all}
-use Rattle.stays_laws.proofs.Maps.{chosen_more}
-use Rattle.stays_laws.proofs.MoreMaps.{IsMore}
-use Rattle.stays_laws.proofs.SharedPages.{HasIt, from_all, Passes, lowest_passes, IsFree, fresh_run}
-use Rattle.stays_laws.proofs.Wanted.{IsThere, IsWanted, is_wanted}
-use Rattle.physical_turns.specs.Physical.{Physical, in_memory, shown_space, is_free_at, laid_behind, behind, after, carried, answered_in}
+use Rattle.alone_laws.specs.Sound.{AreApart, HoldsSource, IsSound}
+use Rattle.alone_laws.proofs.AllMaps.{Around, around}
+use Rattle.alone_laws.proofs.Bytes.{bytes_inside, bytes_before, bytes_behind}
+use Rattle.alone_laws.proofs.FreePages.{each_of_all}
+use Rattle.alone_laws.proofs.Maps.{chosen_more}
+use Rattle.alone_laws.proofs.MoreMaps.{IsMore}
+use Rattle.alone_laws.proofs.SharedPages.{HasIt, from_all, Passes, lowest_passes, IsFree, fresh_run}
+use Rattle.alone_laws.proofs.Wanted.{IsThere, IsWanted, is_wanted}
+use Rattle.memory_world.specs.Physical.{Physical, in_memory, shown_space, is_free_at, laid_behind, behind, after, carried, answered_in}
 use Rattle.go_on_laws.specs.Alike.{in_pages, Stands}
 use Rattle.go_on_laws.proofs.Pages.{own_page, page_inside, not_free, own_not_free}
 use Rattle.go_on_laws.proofs.Behind.{HasSource, has_elsewhere, IsIn, in_elsewhere, Behind, behind_shown, Goes, Came, is_in, behind_changed}

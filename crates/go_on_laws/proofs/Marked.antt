@@ -18,9 +18,9 @@ use Rattle.machine_world.specs.Asks.{Ask, Reply, Row, replies, waits, arg, gives
 use Rattle.machine_world.specs.FamilyCalls.{who_of, waitid_fault, no_info, info_at}
 use Rattle.machine_world.specs.Rows.{row}
 use Rattle.machine_world.specs.Event.{Outcome, went, strays, full, idle, trapped, served, waited, told_in, ask_of, classed}
-use Rattle.physical_turns.specs.Physical.{Physical, in_memory, After, after, no_room, nobody, carried, settled_in, outside, killed, put_in, answered_in, full_at, reaped_in, waitid_behind_in, waitid_in, writes_nothing, classed_in, asked_in, answer_in, effect_in, in_space_in, by_process_in, at_process_in, next_meaning, carried_out, first_stray_in, with_stray, event_in, opening_in}
-use Rattle.physical_turns.specs.After.{AfterHas}
-use Rattle.physical_turns.proofs.ByTurnsIn.{by_turn_in, by_run_in}
+use Rattle.memory_world.specs.Physical.{Physical, in_memory, After, after, no_room, nobody, carried, settled_in, outside, killed, put_in, answered_in, full_at, reaped_in, waitid_behind_in, waitid_in, writes_nothing, classed_in, asked_in, answer_in, effect_in, in_space_in, by_process_in, at_process_in, next_meaning, carried_out, first_stray_in, with_stray, event_in, opening_in}
+use Rattle.memory_world.specs.After.{AfterHas}
+use Rattle.memory_world.proofs.ByTurnsIn.{by_turn_in, by_run_in}
 use Rattle.go_on_laws.specs.Marks.{HasNoMark, OpeningsHaveNoMark, EventsHaveNoMark, TurnsHaveNoMark, RunsHaveNoMark}
 
 pub openings_have_no_mark : OpeningsHaveNoMark

@@ -14,9 +14,9 @@ use Rattle.machine_world.specs.Event.{Trace, Outcome, went, strays, full, idle, 
 use Rattle.machine_world.specs.Turns.{Walk, End, stray_at, seen_of, traced, remains_at, turned, turn, going_on, quantum_turn, turns}
 use Rattle.machine_world.proofs.TurnLaws.{turn_strays}
 use Rattle.machine_world.proofs.Runnable.{may_run_still, ready_found}
-use Rattle.stays_laws.specs.Sound.{IsSound}
-use Rattle.stays_laws.proofs.SoundRuns.{boots_are_sound, events_keep_sound, turns_keep_sound}
-use Rattle.physical_turns.specs.Physical.{Physical, in_memory, shown_space, opening_in}
+use Rattle.alone_laws.specs.Sound.{IsSound}
+use Rattle.alone_laws.proofs.SoundRuns.{boots_are_sound, events_keep_sound, turns_keep_sound}
+use Rattle.memory_world.specs.Physical.{Physical, in_memory, shown_space, opening_in}
 use Rattle.go_on_laws.specs.Alike.{Stands}
 use Rattle.go_on_laws.specs.OwnBytes.{OwnBytesAreThere, ShownBytesAreThere, RunsHaveOwnBytes}
 use Rattle.go_on_laws.proofs.Pages.{own_inside}

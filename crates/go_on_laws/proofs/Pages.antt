@@ -15,11 +15,11 @@ use Rattle.vfork_exec.proofs.Keyed.{find_head, eqb_is, eqb_other}
 use Rattle.machine_world.specs.World.{LiveSpace, World, id_of}
 use Rattle.machine_world.specs.Free.{is_held}
 use Rattle.machine_world.specs.MapCalls.{all_maps}
-use Rattle.stays_laws.specs.Sound.{Apart, AreApart, IsSound}
-use Rattle.stays_laws.proofs.Apart.{apart_back, apart_across, apart_rest}
-use Rattle.stays_laws.proofs.SharedPages.{In, in_all, same_run, not_held}
-use Rattle.physical_turns.specs.Physical.{in_memory, is_free_at}
-use Rattle.physical_turns.specs.Wider.{IsWithin}
+use Rattle.alone_laws.specs.Sound.{Apart, AreApart, IsSound}
+use Rattle.alone_laws.proofs.Apart.{apart_back, apart_across, apart_rest}
+use Rattle.alone_laws.proofs.SharedPages.{In, in_all, same_run, not_held}
+use Rattle.memory_world.specs.Physical.{in_memory, is_free_at}
+use Rattle.memory_world.specs.Wider.{IsWithin}
 use Rattle.go_on_laws.specs.Alike.{in_pages}
 
 -- ---- a mapping

@@ -14,10 +14,10 @@ use Rattle.machine_world.specs.Laws.{refused_outcome}
 use Rattle.machine_world.proofs.States.{change_same}
 use Rattle.machine_world.proofs.Awake.{not_awake}
 use Rattle.machine_world.proofs.Refused.{is_refused, maps_nothing, brings_none, brought_none, brings_nothing}
-use Rattle.physical_turns.specs.Physical.{Physical, after, shown_space, carried, settled_in, asked_in, answer_in, effect_in, carried_out, first_stray_in, with_stray}
-use Rattle.physical_turns.specs.Courses.{IsShown}
-use Rattle.physical_turns.proofs.InMemory.{plain_behind}
-use Rattle.physical_turns.proofs.Moves.{carried_is, event_in_carried}
+use Rattle.memory_world.specs.Physical.{Physical, after, shown_space, carried, settled_in, asked_in, answer_in, effect_in, carried_out, first_stray_in, with_stray}
+use Rattle.memory_world.specs.Courses.{IsShown}
+use Rattle.memory_world.proofs.InMemory.{plain_behind}
+use Rattle.memory_world.proofs.Moves.{carried_is, event_in_carried}
 use Rattle.go_on_laws.specs.Refusals.{CallIn, over_memory, RefusalsLeaveMemory, RefusedEventsLeaveMemory}
 
 -- a refusal puts back the space that it found, and brings nothing

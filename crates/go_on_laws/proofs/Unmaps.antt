@@ -17,9 +17,9 @@ use Rattle.machine_world.specs.World.{Process, LiveSpace, World, id_of}
 use Rattle.machine_world.specs.Asks.{Ask, Reply, arg, leaves}
 use Rattle.machine_world.specs.MapCalls.{over_maps, unmaps, munmap_row}
 use Rattle.machine_world.specs.Event.{Trace, went, ask_of, entry_of, item_of, replied_world, room_for, served, answered}
-use Rattle.stays_laws.specs.Sound.{IsSound}
-use Rattle.stays_laws.proofs.Unmaps.{HitAt, is_hit}
-use Rattle.physical_turns.specs.Physical.{Physical, carried, answered_in}
+use Rattle.alone_laws.specs.Sound.{IsSound}
+use Rattle.alone_laws.proofs.Unmaps.{HitAt, is_hit}
+use Rattle.memory_world.specs.Physical.{Physical, carried, answered_in}
 use Rattle.go_on_laws.specs.Alike.{Stands}
 use Rattle.go_on_laws.proofs.Pages.{own_found, found_own, is_mapping}
 use Rattle.go_on_laws.proofs.Behind.{HasSource, IsIn, only_same, Goes, Came, goes_room, came_plain, is_in, behind_put}

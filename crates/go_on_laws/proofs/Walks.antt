@@ -17,12 +17,12 @@ use Rattle.machine_world.specs.Turns.{Walk, End, all_ended, stuck, out_of_quanta
 use Rattle.machine_world.proofs.Kept.{Answers}
 use Rattle.machine_world.proofs.ByEvents.{Went, Answered, Happened, by_event}
 use Rattle.machine_world.proofs.Runnable.{may_run_still, ready_found}
-use Rattle.stays_laws.specs.Sound.{IsSound}
-use Rattle.stays_laws.proofs.SoundRuns.{events_keep_sound, turns_keep_sound}
-use Rattle.physical_turns.specs.Physical.{Physical, After, after, no_room, nobody, carried_out, has_stray, event_in, WalkIn, remains_at_in, turned_in, turn_in, going_on_in, quantum_turn_in, turns_in}
-use Rattle.physical_turns.specs.Growth.{Adds}
-use Rattle.physical_turns.proofs.Moves.{first_strays, noted_unstrayed, event_in_strays, event_in_calm}
-use Rattle.physical_turns.proofs.Growth.{turns_add, runs_add}
+use Rattle.alone_laws.specs.Sound.{IsSound}
+use Rattle.alone_laws.proofs.SoundRuns.{events_keep_sound, turns_keep_sound}
+use Rattle.memory_world.specs.Physical.{Physical, After, after, no_room, nobody, carried_out, has_stray, event_in, WalkIn, remains_at_in, turned_in, turn_in, going_on_in, quantum_turn_in, turns_in}
+use Rattle.memory_world.specs.Growth.{Adds}
+use Rattle.memory_world.proofs.Moves.{first_strays, noted_unstrayed, event_in_strays, event_in_calm}
+use Rattle.memory_world.proofs.Growth.{turns_add, runs_add}
 use Rattle.go_on_laws.specs.Alike.{Stands}
 use Rattle.go_on_laws.specs.Laws.{LeadsTo, EndsAlike, GoesPast, GoesAlike, TurnsGoOn, RunsGoOn}
 use Rattle.go_on_laws.proofs.Behind.{Goes}

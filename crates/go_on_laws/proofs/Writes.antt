@@ -16,12 +16,12 @@ use Rattle.machine_world.specs.World.{Process, LiveSpace, World, id_of}
 use Rattle.machine_world.specs.Asks.{Ask, Reply, replies, gives, refuses}
 use Rattle.machine_world.specs.Event.{Trace, with_space, counted_in, stepped, ask_of, entry_of, item_of, put_got, replied_world, room_for, served, put, answered}
 use Rattle.machine_world.proofs.States.{with_own}
-use Rattle.stays_laws.specs.Sound.{IsSound}
-use Rattle.stays_laws.proofs.RowSpaces.{SameSpace}
-use Rattle.physical_turns.specs.Physical.{Physical, in_memory, or_below, over, shown_space, bytes_in, is_free_at, laid_behind, behind, after, carried, put_in, answered_in, moved_in}
-use Rattle.physical_turns.specs.Wider.{Grows, PutWider}
-use Rattle.physical_turns.proofs.InMemory.{over_shown}
-use Rattle.physical_turns.proofs.WideRuns.{wide_put}
+use Rattle.alone_laws.specs.Sound.{IsSound}
+use Rattle.alone_laws.proofs.RowSpaces.{SameSpace}
+use Rattle.memory_world.specs.Physical.{Physical, in_memory, or_below, over, shown_space, bytes_in, is_free_at, laid_behind, behind, after, carried, put_in, answered_in, moved_in}
+use Rattle.memory_world.specs.Wider.{Grows, PutWider}
+use Rattle.memory_world.proofs.InMemory.{over_shown}
+use Rattle.memory_world.proofs.WideRuns.{wide_put}
 use Rattle.go_on_laws.specs.Alike.{Stands}
 use Rattle.go_on_laws.proofs.Pages.{may_own, may_inside, own_not_free, copy_locked, other_locked}
 use Rattle.go_on_laws.proofs.Behind.{has_elsewhere, IsIn, in_elsewhere, Behind, behind_shown, put_alike, Goes, goes_room, is_in, behind_changed, behind_put}

@@ -9,9 +9,9 @@ use Rattle.mem_files.specs.Inodes.{Inode, Inodes, inode_at, bytes_in}
 use Rattle.flat_loader.specs.Original.{header_len}
 use Rattle.vfork_exec.specs.Keyed.{find}
 use Rattle.machine_world.specs.World.{LiveSpace, World, id_of}
-use Rattle.physical_turns.specs.Physical.{Physical, in_memory}
-use Rattle.physical_turns.specs.Courses.{IsShown}
-use Rattle.stays_laws.specs.Sound.{copied_byte}
+use Rattle.memory_world.specs.Physical.{Physical, in_memory}
+use Rattle.memory_world.specs.Courses.{IsShown}
+use Rattle.alone_laws.specs.Sound.{copied_byte}
 
 -- an address in the pages that a mapping holds, own or not
 abbrev pub in_pages : Mapping → ℕ → Bool

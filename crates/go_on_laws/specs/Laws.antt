@@ -9,10 +9,10 @@ use Rattle.machine_world.specs.Families.{MayRun}
 use Rattle.machine_world.specs.Event.{Trace, went, full, noted, event}
 use Rattle.machine_world.specs.Turns.{End, stray_at, seen_of, turn, turns}
 use Rattle.machine_world.specs.Boot.{StartLine, boot}
-use Rattle.stays_laws.specs.Sound.{IsSound}
-use Rattle.stays_laws.specs.Laws.{CanBoot}
-use Rattle.physical_turns.specs.Physical.{Physical, After, after, no_room, carried_out, has_stray, event_in, WalkIn, turn_in, turns_in, opening_in}
-use Rattle.physical_turns.specs.Growth.{Adds}
+use Rattle.alone_laws.specs.Sound.{IsSound}
+use Rattle.alone_laws.specs.Laws.{CanBoot}
+use Rattle.memory_world.specs.Physical.{Physical, After, after, no_room, carried_out, has_stray, event_in, WalkIn, turn_in, turns_in, opening_in}
+use Rattle.memory_world.specs.Growth.{Adds}
 use Rattle.go_on_laws.specs.Alike.{AreHeaders, Stands}
 
 -- ---- boot

@@ -2,8 +2,8 @@
 use Rattle.std.specs.Prelude.{◌≡◌, ℕ, List, []}
 use Rattle.quantum_sched.specs.declared.Quantum.{Quantum}
 use Rattle.machine_world.specs.World.{World}
-use Rattle.physical_turns.specs.Physical.{Physical, event_in, turn_in, turns_in, opening_in}
-use Rattle.physical_turns.specs.After.{AfterHas}
+use Rattle.memory_world.specs.Physical.{Physical, event_in, turn_in, turns_in, opening_in}
+use Rattle.memory_world.specs.After.{AfterHas}
 
 -- no pipe is marked as changed
 abbrev pub HasNoMark : World → Type 0

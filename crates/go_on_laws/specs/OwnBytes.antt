@@ -7,9 +7,9 @@ use Rattle.vfork_exec.specs.Procs.{most_entries}
 use Rattle.machine_world.specs.World.{LiveSpace, Rest, World, id_of}
 use Rattle.machine_world.specs.Turns.{turns}
 use Rattle.machine_world.specs.Boot.{StartLine, boot}
-use Rattle.stays_laws.specs.Sound.{IsSound}
-use Rattle.stays_laws.specs.Laws.{CanBoot}
-use Rattle.physical_turns.specs.Physical.{Physical}
+use Rattle.alone_laws.specs.Sound.{IsSound}
+use Rattle.alone_laws.specs.Laws.{CanBoot}
+use Rattle.memory_world.specs.Physical.{Physical}
 use Rattle.go_on_laws.specs.Alike.{Stands}
 
 -- a live space has a byte at each address of its own, and at no other

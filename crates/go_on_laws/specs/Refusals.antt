@@ -9,8 +9,8 @@ use Rattle.machine_world.specs.World.{Process, LiveSpace, pid_of, id_of}
 use Rattle.machine_world.specs.Asks.{Ask, refuses}
 use Rattle.machine_world.specs.Event.{Outcome, went, strays, full, idle, ask_of}
 use Rattle.machine_world.specs.Laws.{refused_outcome}
-use Rattle.physical_turns.specs.Physical.{Physical, After, after, no_room, nobody, next_meaning, answered_in, classed_in, carried_out, first_stray_in, with_stray, event_in}
-use Rattle.physical_turns.specs.Courses.{IsShown}
+use Rattle.memory_world.specs.Physical.{Physical, After, after, no_room, nobody, next_meaning, answered_in, classed_in, carried_out, first_stray_in, with_stray, event_in}
+use Rattle.memory_world.specs.Courses.{IsShown}
 
 -- a process that lives stands at a system call, and what it reads is in memory
 pub record CallIn (p : Physical) (pid : ℕ) : Type 0 where

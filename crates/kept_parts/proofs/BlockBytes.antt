@@ -15,7 +15,7 @@ use Rattle.bflt_format.specs.Spelling.{spell}
 use Rattle.flat_loader.specs.Original.{flat_original, header_len, block_pages}
 use Rattle.flat_loader.specs.Begin.{Loading, own_range, in_block, begin_byte, begin_bytes}
 use Rattle.flat_loader.specs.Loads.{page_loading}
-use Rattle.physical_turns.specs.Physical.{or_below}
+use Rattle.memory_world.specs.Physical.{or_below}
 use Rattle.kept_parts.specs.Kept.{Kept}
 use Rattle.kept_parts.specs.Regular.{Regular}
 use Rattle.kept_parts.specs.InMemory.{header_of}

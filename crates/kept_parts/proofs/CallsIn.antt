@@ -17,9 +17,9 @@ use Rattle.machine_world.specs.Event as event
 use Rattle.machine_world.specs.Event.{trapped, number_of, args_of, waited, answered, exited, is_exit, cloned, exec, awake}
 use Rattle.file_calls.specs.declared.call.Call.{Call}
 use Rattle.file_calls.specs.Calls.{WaitsOn}
-use Rattle.physical_turns.specs.Physical.{Physical, After, after, no_room, nobody, carried, settled_in, killed, answered_in, waitid_in, classed_in, asked_in, answer_in, in_space_in, by_process_in, at_process_in, called_in, died_in, outside}
-use Rattle.physical_turns.proofs.Sub.{sent_sub}
-use Rattle.physical_turns.proofs.InMemory.{answered_begins, exited_begins, cloned_begins, waited_begins}
+use Rattle.memory_world.specs.Physical.{Physical, After, after, no_room, nobody, carried, settled_in, killed, answered_in, waitid_in, classed_in, asked_in, answer_in, in_space_in, by_process_in, at_process_in, called_in, died_in, outside}
+use Rattle.memory_world.proofs.Sub.{sent_sub}
+use Rattle.memory_world.proofs.InMemory.{answered_begins, exited_begins, cloned_begins, waited_begins}
 use Rattle.kept_parts.specs.declared.task.Task.{Task}
 use Rattle.kept_parts.specs.declared.effect.Effect.{Effect}
 use Rattle.kept_parts.specs.declared.effect.Effect.TheVariants.{Answer, Yield, Break}

@@ -23,7 +23,7 @@ use Rattle.call_log.specs.Notes.{CallEntry, LoadEntry, Note, call_note, load_not
 use Rattle.flat_loader.specs.Loads.{block_region}
 use Rattle.flat_loader.specs.Begin.{Loading, in_block, block_end}
 use Rattle.machine_world.specs.Ages.{AreChanged, Follows, kept_calls, most_at_boot}
-use Rattle.physical_turns.specs.Physical.{has_stray}
+use Rattle.memory_world.specs.Physical.{has_stray}
 use Rattle.kept_parts.specs.Kept.{Kept}
 use Rattle.kept_parts.specs.Regular.{Regular, named_in}
 use Rattle.kept_parts.specs.Copies.{KnowsFile, KnowsSource, CopiesHold}

@@ -26,8 +26,8 @@ use Rattle.machine_world.specs.World.{World, id_of}
 use Rattle.machine_world.specs.Families.{borrows, spaces_left}
 use Rattle.machine_world.specs.Asks.{Ask, answers, refuses}
 use Rattle.machine_world.specs.Event.{Trace, Outcome, went, strays, full, idle, counted_in, noted, entry_of, plain_item, answered, with_exec, load_of, exec_fitting, exec}
-use Rattle.physical_turns.specs.Physical.{Physical, After, after, or_below, bytes_in, is_free_at, laid_behind, carried, showing}
-use Rattle.physical_turns.proofs.InMemory.{answered_begins}
+use Rattle.memory_world.specs.Physical.{Physical, After, after, or_below, bytes_in, is_free_at, laid_behind, carried, showing}
+use Rattle.memory_world.proofs.InMemory.{answered_begins}
 use Rattle.kept_parts.specs.declared.task.Task.{Task}
 use Rattle.kept_parts.specs.declared.served.Served.{Served}
 use Rattle.kept_parts.specs.declared.served.Served.TheVariants.{Replied, LogFull}

@@ -27,7 +27,7 @@ use Rattle.machine_world.specs.World.{Process, pid_of}
 use Rattle.machine_world.specs.Families.{let_go, sharing, AreChains}
 use Rattle.machine_world.specs.Event.{with_exec as world_exec}
 use Rattle.machine_world.specs.Ages.{kept_calls, most_at_boot}
-use Rattle.physical_turns.specs.Physical.{has_stray}
+use Rattle.memory_world.specs.Physical.{has_stray}
 use Rattle.machine_world.proofs.Aging.{exec_ages}
 use Rattle.machine_world.proofs.Chains.{find_let_go, find_sharing, owner_alone, chains_exec, sharing_own_exec}
 use Rattle.kept_parts.specs.declared.task.Task.{Task}

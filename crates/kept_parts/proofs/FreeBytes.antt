@@ -15,7 +15,7 @@ use Rattle.region_watch.specs.Private.{only, physical}
 use Rattle.vfork_exec.specs.Keyed.{find, change, without}
 use Rattle.vfork_exec.proofs.Keyed.{find_head, change_head, without_head}
 use Rattle.machine_world.specs.World.{LiveSpace, id_of}
-use Rattle.physical_turns.specs.Physical.{or_below, bytes_in, is_free_at}
+use Rattle.memory_world.specs.Physical.{or_below, bytes_in, is_free_at}
 use Rattle.kept_parts.specs.Kept.{Kept}
 use Rattle.kept_parts.specs.Regular.{Regular}
 use Rattle.kept_parts.specs.Stands.{About, private_bytes, live_at, live_from, live_spaces, world_of}

@@ -22,8 +22,8 @@ use Rattle.machine_world.specs.Event.{Trace, Outcome, went, full, with_space, en
 use Rattle.file_calls.specs.declared.call.Call.{Call}
 use Rattle.file_calls.specs.declared.outcome.Outcome.{Outcome as Output}
 use Rattle.file_calls.specs.Calls.{after as after_files, got_of}
-use Rattle.physical_turns.specs.Physical.{After, after, no_room, nobody, or_below, over, showing, bytes_in, is_free_at, laid_behind, carried, outside, killed, put_in, answered_in, has_stray}
-use Rattle.physical_turns.proofs.InMemory.{trapped_begins}
+use Rattle.memory_world.specs.Physical.{After, after, no_room, nobody, or_below, over, showing, bytes_in, is_free_at, laid_behind, carried, outside, killed, put_in, answered_in, has_stray}
+use Rattle.memory_world.proofs.InMemory.{trapped_begins}
 use Rattle.kept_parts.specs.declared.task.Task.{Task}
 use Rattle.kept_parts.specs.declared.reach.Reach.{Reach}
 use Rattle.kept_parts.specs.declared.reach.Reach.TheVariants.{Own, Whole}

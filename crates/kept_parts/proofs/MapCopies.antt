@@ -17,7 +17,7 @@ use Rattle.mmap_rules.proofs.CopiesHold.{all_hold}
 use Rattle.mmap_rules.proofs.NamesMore.{used}
 use Rattle.mem_files.specs.Inodes.{Inode, Inodes, inode_at, bytes_of as bytes_of_file}
 use Rattle.machine_world.specs.Ages.{kept_calls}
-use Rattle.physical_turns.specs.Physical.{has_stray}
+use Rattle.memory_world.specs.Physical.{has_stray}
 use Rattle.kept_parts.specs.Kept.{Kept}
 use Rattle.kept_parts.specs.Regular.{Regular}
 use Rattle.kept_parts.specs.Copies.{KnowsSource, CopiesHold}

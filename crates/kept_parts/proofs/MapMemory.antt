@@ -43,7 +43,7 @@ use Rattle.machine_world.specs.Asks.{Ask, Reply, Row, leaves}
 use Rattle.machine_world.specs.MapCalls.{or_own, with_mapping, maps}
 use Rattle.machine_world.specs.MapCalls.{mapped as mapped_row}
 use Rattle.machine_world.specs.Event.{Trace, with_space, entry_of, item_of, replied, replied_world, room_for, served, answered}
-use Rattle.physical_turns.specs.Physical.{Physical, After, after, or_below, shown_space, showing, bytes_in, is_free_at, laid_behind, behind, carried}
+use Rattle.memory_world.specs.Physical.{Physical, After, after, or_below, shown_space, showing, bytes_in, is_free_at, laid_behind, behind, carried}
 use Rattle.kept_parts.specs.declared.task.Task.{Task}
 use Rattle.kept_parts.specs.Kept.{Kept}
 use Rattle.kept_parts.specs.Regular.{Regular}

@@ -27,7 +27,7 @@ use Rattle.kept_parts.specs.Kept.{Kept}
 use Rattle.kept_parts.specs.Regular.{Regular}
 use Rattle.kept_parts.specs.Copies.{CopiesHold, HoldsFiles}
 use Rattle.machine_world.specs.Ages.{kept_calls}
-use Rattle.physical_turns.specs.Physical.{has_stray}
+use Rattle.memory_world.specs.Physical.{has_stray}
 use Rattle.mmap_rules.specs.Copies.{IsKnown, wanted_bytes}
 use Rattle.machine_world.specs.World.{Recording}
 use Rattle.kept_parts.specs.Recorded.{event_recorded, call_recorded}

@@ -10,7 +10,7 @@ use Rattle.call_log.specs.declared.note.Note.TheVariants.{Call, Load, End, Stray
 use Rattle.call_log.specs.Notes.{Note, call_note, load_note, end_note, stray_note}
 use Rattle.call_log.specs.Values.{note_value}
 use Rattle.machine_world.specs.Turns.{seen_of}
-use Rattle.physical_turns.specs.Physical.{has_stray}
+use Rattle.memory_world.specs.Physical.{has_stray}
 use Rattle.kept_parts.specs.Noted.{first_noted}
 
 stray_or : (xs ys : List Note) → has_stray (xs ++ ys) ≡ (has_stray xs || has_stray ys)

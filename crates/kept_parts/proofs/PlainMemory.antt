@@ -18,9 +18,9 @@ use Rattle.machine_world.specs.Asks.{Ask, Reply, Row, replies, waits, refuses}
 use Rattle.machine_world.specs.Recordings.{room_in}
 use Rattle.machine_world.specs.Event.{Trace, Outcome, went, strays, full, idle, trapped, room_for, served, put, waited, answered, exited, forked, cloned, in_space, by_process, at_process}
 use Rattle.machine_world.specs.Families.{is_full}
-use Rattle.physical_turns.specs.Physical as all
-use Rattle.physical_turns.specs.Physical.{Physical, After, after, no_room, nobody, shown_space, behind, in_memory, carried, settled_in, killed, put_in, answered_in, died_in}
-use Rattle.physical_turns.proofs.InMemory.{BeginsNothing, trapped_begins, plain_behind}
+use Rattle.memory_world.specs.Physical as all
+use Rattle.memory_world.specs.Physical.{Physical, After, after, no_room, nobody, shown_space, behind, in_memory, carried, settled_in, killed, put_in, answered_in, died_in}
+use Rattle.memory_world.proofs.InMemory.{BeginsNothing, trapped_begins, plain_behind}
 use Rattle.kept_parts.specs.declared.served.Served.{Served}
 use Rattle.kept_parts.specs.declared.served.Served.TheVariants as result
 use Rattle.kept_parts.specs.Kept.{Kept}

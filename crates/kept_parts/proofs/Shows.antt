@@ -5,8 +5,8 @@ use Rattle.std.proofs.lemmas.List.{map-append}
 use Rattle.mmap_rules.specs.Held.{Held}
 use Rattle.region_watch.specs.Private.{physical}
 use Rattle.machine_world.specs.World.{LiveSpace}
-use Rattle.physical_turns.specs.Physical.{shown_space, showing}
-use Rattle.physical_turns.proofs.InMemory.{showing_shown}
+use Rattle.memory_world.specs.Physical.{shown_space, showing}
+use Rattle.memory_world.proofs.InMemory.{showing_shown}
 use Rattle.kept_parts.specs.Kept.{Kept}
 use Rattle.kept_parts.specs.Stands.{About, private_bytes, live_at, live_from, live_spaces, world_of}
 

@@ -17,7 +17,7 @@ use Rattle.file_calls.specs.Calls.{with_all}
 use Rattle.kept_parts.specs.Kept.{Kept}
 use Rattle.kept_parts.specs.Copies.{CopiesHold}
 use Rattle.machine_world.specs.Ages.{kept_calls, most_at_boot}
-use Rattle.physical_turns.specs.Physical.{has_stray}
+use Rattle.memory_world.specs.Physical.{has_stray}
 use Rattle.kept_parts.specs.Calls.{noted_call}
 use Rattle.kept_parts.proofs.CopiesStay.{copies_noted, copies_aged, copies_released, call_counts}
 

@@ -16,7 +16,7 @@ use Rattle.flat_loader.specs.Original.{flat_original, header_len, block_pages}
 use Rattle.flat_loader.specs.Begin.{Loading, in_block, begin_space}
 use Rattle.flat_loader.specs.Loads.{block_region, page_loading}
 use Rattle.machine_world.specs.World.{LiveSpace}
-use Rattle.physical_turns.specs.Physical.{or_below, bytes_in, all_headed, first_memory}
+use Rattle.memory_world.specs.Physical.{or_below, bytes_in, all_headed, first_memory}
 use Rattle.kept_parts.specs.Kept.{Kept}
 use Rattle.kept_parts.specs.Regular.{Regular}
 use Rattle.kept_parts.specs.Stands.{About, live_spaces, world_of}

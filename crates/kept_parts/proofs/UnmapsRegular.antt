@@ -28,7 +28,7 @@ use Rattle.kept_parts.specs.Kept.{Kept}
 use Rattle.kept_parts.specs.Regular.{Names, Regular, HasSpace, named_in, uses_in}
 use Rattle.kept_parts.specs.Copies.{KnowsSource, CopiesHold}
 use Rattle.machine_world.specs.Ages.{kept_calls}
-use Rattle.physical_turns.specs.Physical.{has_stray}
+use Rattle.memory_world.specs.Physical.{has_stray}
 use Rattle.call_bytes.proofs.Places.{get_set, get_other, after_set}
 use Rattle.kept_parts.proofs.Counts.{named, counted, counted_both}
 use Rattle.kept_parts.proofs.Gone.{released_at, regions_released}

@@ -6,7 +6,7 @@ use Rattle.nommu_regions.specs.declared.region.Source.{Source}
 use Rattle.nommu_regions.specs.declared.region.Source.TheVariants.{Own, Copy}
 use Rattle.mem_files.specs.Inodes.{Inode, Inodes, inode_at}
 use Rattle.mmap_rules.specs.Copies.{AllHold}
-use Rattle.physical_turns.specs.Physical.{has_stray}
+use Rattle.memory_world.specs.Physical.{has_stray}
 use Rattle.machine_world.specs.Ages.{AreChanged, kept_calls, most_at_boot}
 use Rattle.kept_parts.specs.Kept.{Kept}
 

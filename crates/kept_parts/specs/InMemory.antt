@@ -10,7 +10,7 @@ use Rattle.rv32im_step.specs.declared.access.Access.{Access}
 use Rattle.call_log.specs.Notes.{stray_note}
 use Rattle.machine_world.specs.Event.{Outcome, called, stray_in}
 use Rattle.machine_world.specs.Turns.{seen_of}
-use Rattle.physical_turns.specs.Physical.{Physical, After, after, no_room, nobody, carried, called_in, has_stray, with_stray, first_memory}
+use Rattle.memory_world.specs.Physical.{Physical, After, after, no_room, nobody, carried, called_in, has_stray, with_stray, first_memory}
 use Rattle.kept_parts.specs.declared.reach.Reach.{Reach}
 use Rattle.kept_parts.specs.declared.reach.Reach.TheVariants.{Own, Whole}
 use Rattle.kept_parts.specs.declared.served.Served.{Served}

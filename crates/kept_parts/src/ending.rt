@@ -8,7 +8,7 @@ ghost use Rattle.machine_world.specs.Event.{at_process, trapped, died};
 ghost use Rattle.kept_parts.specs.declared.task.Task.{Task};
 ghost use Rattle.kept_parts.specs.Regular.{HasSpace};
 ghost use Rattle.kept_parts.specs.Stands.{About, world_of};
-ghost use Rattle.physical_turns.specs.Physical.{died_in};
+ghost use Rattle.memory_world.specs.Physical.{died_in};
 ghost use Rattle.kept_parts.specs.InMemory.{physical_of, DiesIn};
 ghost use Rattle.kept_parts.specs.Copies.{HoldsFiles};
 ghost use Rattle.kept_parts.specs.Recorded.{room_beside};

@@ -12,7 +12,7 @@ ghost use Rattle.machine_world.specs.Event.{answered, exec_fitting};
 ghost use Rattle.kept_parts.specs.declared.task.Task.{Task};
 ghost use Rattle.kept_parts.specs.Stands.{About, world_of};
 ghost use Rattle.region_watch.specs.Private.{physical};
-ghost use Rattle.physical_turns.specs.Physical.{carried};
+ghost use Rattle.memory_world.specs.Physical.{carried};
 ghost use Rattle.kept_parts.specs.InMemory.{header_of, physical_of, ServesIn};
 ghost use Rattle.kept_parts.specs.declared.served.Served.TheVariants.{Replied};
 ghost use Rattle.kept_parts.specs.Copies.{HoldsFiles};

@@ -3,7 +3,7 @@
 ghost use Rattle.std.specs.Prelude.{◌≡◌, ◌≤◌, IfOk, length, map, option_map, slice_get, Some};
 ghost use Rattle.call_log.specs.Values.{note_value};
 ghost use Rattle.mmap_rules.specs.Held.{Held};
-ghost use Rattle.physical_turns.specs.Physical.{has_stray};
+ghost use Rattle.memory_world.specs.Physical.{has_stray};
 ghost use Rattle.machine_world.specs.Turns.{seen_of};
 ghost use Rattle.kept_parts.specs.Noted.{first_noted};
 ghost use Rattle.kept_parts.specs.Reach.{Reaches, whole_table};

@@ -8,7 +8,7 @@ ghost use Rattle.mmap_rules.specs.Held.{Held, next_brk};
 ghost use Rattle.mmap_rules.specs.Space.{writable_in};
 ghost use Rattle.vfork_exec.specs.declared.entry.Entry.{Entry as Listed};
 ghost use Rattle.vfork_exec.specs.Procs.{Lives, value_at, with_value_at};
-ghost use Rattle.physical_turns.specs.Physical.{has_stray};
+ghost use Rattle.memory_world.specs.Physical.{has_stray};
 ghost use Rattle.machine_world.specs.Rows.{row};
 ghost use Rattle.machine_world.specs.Event.{replied};
 ghost use Rattle.file_calls.specs.Calls.{IsChange, DoesNotWait, got_of};

@@ -2,7 +2,7 @@
 
 ghost use Rattle.std.specs.Prelude.{◌≡◌, IfOk, Some};
 ghost use Rattle.machine_world.specs.Turns.{seen_of};
-ghost use Rattle.physical_turns.specs.Physical.{has_stray};
+ghost use Rattle.memory_world.specs.Physical.{has_stray};
 ghost use Rattle.kept_parts.specs.InMemory.{with_range, without_newest};
 ghost use Rattle.kept_parts.specs.Regular.{IsRegular};
 ghost use Rattle.kept_parts.specs.Serves.{NotesStray};

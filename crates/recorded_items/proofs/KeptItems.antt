@@ -14,12 +14,12 @@ use Rattle.machine_world.specs.Recordings.{most_count, is_kept, is_recorded}
 use Rattle.machine_world.specs.Event.{maps_file, plain_item}
 use Rattle.machine_world.specs.Turns.{turns}
 use Rattle.machine_world.specs.Boot.{StartLine, empty_world, boot}
-use Rattle.stays_laws.specs.Stays.{Stay, first_stays}
-use Rattle.stays_laws.specs.Sound.{IsSound}
-use Rattle.stays_laws.specs.Laws.{CanBoot}
-use Rattle.stays_laws.proofs.Lists.{eqb_other, eqb_same}
-use Rattle.stays_laws.proofs.SoundBegins.{some_pages}
-use Rattle.stays_laws.proofs.SoundRuns.{boots_are_sound}
+use Rattle.alone_laws.specs.Stays.{Stay, first_stays}
+use Rattle.alone_laws.specs.Sound.{IsSound}
+use Rattle.alone_laws.specs.Laws.{CanBoot}
+use Rattle.alone_laws.proofs.Lists.{eqb_other, eqb_same}
+use Rattle.alone_laws.proofs.SoundBegins.{some_pages}
+use Rattle.alone_laws.proofs.SoundRuns.{boots_are_sound}
 use Rattle.recording_laws.specs.Homes.{home, is_in, calls_at}
 use Rattle.recording_laws.specs.Items.{first_list, other_lists, with_lists, launch_in, AreRecorded}
 use Rattle.recording_laws.proofs.Runs.{boots_record, runs_record, recordings_tell}

@@ -34,9 +34,9 @@ use Rattle.machine_world.specs.Rows.{row}
 use Rattle.machine_world.specs.Recordings.{room_in}
 use Rattle.machine_world.specs.Event.{Begins, Trace, Outcome, went, full, number_of, args_of, put_got, noted, ended, stepped, trapped, ask_of, entry_of, room_for, served, put, waited, answered, exited, is_exit, reaped, told_in, waitid_behind, waitid, forked, cloned, executed, exec_at, exec_program, exec_strings, exec, classed, asked, answer, effect, in_space, by_process, at_process, event}
 use Rattle.machine_world.proofs.ByEvents.{Went, by_settled}
-use Rattle.stays_laws.specs.Stays.{Stay, change_at, longer, begun_stay, collect}
-use Rattle.stays_laws.specs.Sound.{IsSound}
-use Rattle.stays_laws.proofs.SoundBegins.{pages_free}
+use Rattle.alone_laws.specs.Stays.{Stay, change_at, longer, begun_stay, collect}
+use Rattle.alone_laws.specs.Sound.{IsSound}
+use Rattle.alone_laws.proofs.SoundBegins.{pages_free}
 use Rattle.recorded_items.specs.Spelled.{IsLoaded, IsAnswered, IsNoted, HasLoaded, AreReadable}
 use Rattle.recorded_items.proofs.SomeOutput.{AreSome, GivesSome, some_row, some_info, some_none}
 use Rattle.recorded_items.proofs.ClearStrings.{ClearProgram, clear_program}

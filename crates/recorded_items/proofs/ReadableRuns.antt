@@ -12,10 +12,10 @@ use Rattle.machine_world.specs.World.{Rest, World}
 use Rattle.machine_world.specs.Free.{free}
 use Rattle.machine_world.specs.Turns.{turns}
 use Rattle.machine_world.specs.Boot.{StartLine, BootFault, Found, found, start_path, taken, placed, fitting, located, started, then_started, all_started, empty_world, boot}
-use Rattle.stays_laws.specs.Stays.{Stay, loading_at, loading_in, loading_of, first_stay, behind_start, first_stays, stays_along}
-use Rattle.stays_laws.specs.Sound.{IsSound}
-use Rattle.stays_laws.proofs.SoundRuns.{events_keep_sound, turns_keep_sound}
-use Rattle.stays_laws.proofs.TurnStays.{along_runs}
+use Rattle.alone_laws.specs.Stays.{Stay, loading_at, loading_in, loading_of, first_stay, behind_start, first_stays, stays_along}
+use Rattle.alone_laws.specs.Sound.{IsSound}
+use Rattle.alone_laws.proofs.SoundRuns.{events_keep_sound, turns_keep_sound}
+use Rattle.alone_laws.proofs.TurnStays.{along_runs}
 use Rattle.recorded_items.specs.Spelled.{HasLoaded, AreReadable}
 use Rattle.recorded_items.specs.Laws.{AreStrings}
 use Rattle.recorded_items.proofs.Readable.{is_loaded, all_append, readable_event, readable_stray}

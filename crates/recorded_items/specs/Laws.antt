@@ -8,8 +8,8 @@ use Rattle.machine_world.specs.World.{Rest, World}
 use Rattle.machine_world.specs.Recordings.{most_count}
 use Rattle.machine_world.specs.Turns.{turns}
 use Rattle.machine_world.specs.Boot.{StartLine, empty_world, boot}
-use Rattle.stays_laws.specs.Stays.{Stay, stays_along, first_stays}
-use Rattle.stays_laws.specs.Laws.{CanBoot}
+use Rattle.alone_laws.specs.Stays.{Stay, stays_along, first_stays}
+use Rattle.alone_laws.specs.Laws.{CanBoot}
 use Rattle.recorded_items.specs.Recorded.{kept_space, told_item, recorded}
 
 -- the items of a stay

@@ -9,7 +9,7 @@ use Rattle.flat_loader.specs.Alone.{most_pages}
 use Rattle.items_text.specs.Items.{IsString}
 use Rattle.machine_world.specs.World.{World}
 use Rattle.machine_world.specs.Found.{address_of}
-use Rattle.stays_laws.specs.Stays.{Stay}
+use Rattle.alone_laws.specs.Stays.{Stay}
 
 -- a block of whole pages in memory, and strings without a zero byte whose frame lies in its stack
 pub record IsLoaded (l : Loading) : Type 0 where

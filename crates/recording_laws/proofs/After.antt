@@ -9,8 +9,8 @@ use Rattle.machine_world.specs.World.{Process, Recording, World, pid_of}
 use Rattle.machine_world.specs.Recordings.{is_kept, is_recorded, launch_of, launched, raised, raised_in}
 use Rattle.machine_world.specs.Event.{Trace}
 use Rattle.machine_world.proofs.Raised.{raised_twice}
-use Rattle.stays_laws.specs.Stays.{Stay, change_at, longer}
-use Rattle.stays_laws.proofs.Lists.{eqb_is, eqb_isnt, eqb_same, eqb_other, if_yes, if_no, length-change_at, changed_here, changed_beside, more_item}
+use Rattle.alone_laws.specs.Stays.{Stay, change_at, longer}
+use Rattle.alone_laws.proofs.Lists.{eqb_is, eqb_isnt, eqb_same, eqb_other, if_yes, if_no, length-change_at, changed_here, changed_beside, more_item}
 use Rattle.recording_laws.specs.Homes.{loads_in, home, calls_at, items_of, entries_of, AreAtHome}
 use Rattle.recording_laws.specs.Items.{launch_in, events_of, lists_of, ArePlain, FollowsStay, AreRecorded}
 use Rattle.recording_laws.proofs.Lists.{items_after, events_after, launch_after, pushed_own, pushed_beside, by_push, entries_if, lists_if, plain_if}

@@ -42,12 +42,12 @@ use Rattle.machine_world.specs.Event.{Trace, Outcome, went, strays, full, idle, 
 use Rattle.machine_world.proofs.Raised.{raised_none}
 use Rattle.machine_world.proofs.Refused.{is_refused, maps_nothing}
 use Rattle.machine_world.proofs.States.{find_has}
-use Rattle.stays_laws.specs.Stays.{Stay, change_at, longer, begun_stay, collect}
-use Rattle.stays_laws.specs.Sound.{IsSound}
-use Rattle.stays_laws.proofs.Lists.{eqb_is, if_no}
-use Rattle.stays_laws.proofs.Frame.{found_below}
-use Rattle.stays_laws.proofs.Forks.{pid_isnt}
-use Rattle.stays_laws.proofs.RowSpaces.{row-mmap2}
+use Rattle.alone_laws.specs.Stays.{Stay, change_at, longer, begun_stay, collect}
+use Rattle.alone_laws.specs.Sound.{IsSound}
+use Rattle.alone_laws.proofs.Lists.{eqb_is, if_no}
+use Rattle.alone_laws.proofs.Frame.{found_below}
+use Rattle.alone_laws.proofs.Forks.{pid_isnt}
+use Rattle.alone_laws.proofs.RowSpaces.{row-mmap2}
 use Rattle.recording_laws.specs.Homes.{forks, loads_in, home, calls_at, entries_of}
 use Rattle.recording_laws.specs.Items.{lists_of, ArePlain, AreRecorded}
 use Rattle.recording_laws.specs.Laws.{EventsRecord}

@@ -5,8 +5,8 @@ use Rattle.std.proofs.lemmas.Bool.{cases_Bool}
 use Rattle.std.proofs.lemmas.List.{append-nil, map-append}
 use Rattle.flat_loader.specs.Alone.{Item}
 use Rattle.machine_world.specs.Event.{Trace, maps_file}
-use Rattle.stays_laws.specs.Stays.{Stay, change_at, longer}
-use Rattle.stays_laws.proofs.Lists.{eqb_is, eqb_isnt, changed_beside}
+use Rattle.alone_laws.specs.Stays.{Stay, change_at, longer}
+use Rattle.alone_laws.proofs.Lists.{eqb_is, eqb_isnt, changed_beside}
 use Rattle.recording_laws.specs.Homes.{items_of, entries_of}
 use Rattle.recording_laws.specs.Items.{launch_in, events_of, lists_of, ArePlain}
 

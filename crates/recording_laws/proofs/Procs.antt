@@ -14,7 +14,7 @@ use Rattle.machine_world.specs.Asks.{Ask}
 use Rattle.machine_world.specs.Event.{child_of, with_child, with_exec}
 use Rattle.machine_world.proofs.Awake.{was_there}
 use Rattle.machine_world.proofs.Chains.{find_left, find_left_own, find_exec, find_exec_own}
-use Rattle.stays_laws.proofs.Lists.{eqb_is, eqb_isnt, eqb_same, eqb_other}
+use Rattle.alone_laws.proofs.Lists.{eqb_is, eqb_isnt, eqb_same, eqb_other}
 use Rattle.recording_laws.specs.Homes.{forks, home, is_in, calls_at}
 
 -- a process that was there, in the same space

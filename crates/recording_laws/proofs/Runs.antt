@@ -20,10 +20,10 @@ use Rattle.machine_world.specs.Recordings.{most_count, raised}
 use Rattle.machine_world.specs.Free.{free}
 use Rattle.machine_world.specs.Event.{maps_file, noted, plain_item}
 use Rattle.machine_world.specs.Boot.{StartLine, BootFault, Found, found, start_path, begun, address_of, taken, placed, fitting, located, started, then_started, all_started, empty_world, boot}
-use Rattle.stays_laws.specs.Stays.{Stay, loading_at, loading_in, loading_of, first_stay, behind_start, first_stays}
-use Rattle.stays_laws.proofs.Lists.{eqb_is, eqb_isnt}
-use Rattle.stays_laws.proofs.SoundRuns.{events_keep_sound, turns_keep_sound}
-use Rattle.stays_laws.proofs.TurnStays.{along_turns, along_runs}
+use Rattle.alone_laws.specs.Stays.{Stay, loading_at, loading_in, loading_of, first_stay, behind_start, first_stays}
+use Rattle.alone_laws.proofs.Lists.{eqb_is, eqb_isnt}
+use Rattle.alone_laws.proofs.SoundRuns.{events_keep_sound, turns_keep_sound}
+use Rattle.alone_laws.proofs.TurnStays.{along_turns, along_runs}
 use Rattle.recording_laws.specs.Homes.{loads_in, home, calls_at, items_of, entries_of}
 use Rattle.recording_laws.specs.Items.{first_list, other_lists, with_lists, launch_in, events_of, lists_of, ArePlain, FollowsStay, AreRecorded}
 use Rattle.recording_laws.specs.Laws.{BootsRecord, TurnsRecord, RunsRecord, RecordingsTell}

@@ -5,7 +5,7 @@ use Rattle.call_log.specs.Numbers as numbers
 use Rattle.vfork_exec.specs.Keyed.{find}
 use Rattle.flat_loader.specs.Alone.{Item, is_errno}
 use Rattle.machine_world.specs.World.{Process, World, pid_of}
-use Rattle.stays_laws.specs.Stays.{Stay}
+use Rattle.alone_laws.specs.Stays.{Stay}
 
 -- a clone that wasn't refused: its reply is the child's pid
 abbrev pub forks : CallEntry → Bool

@@ -5,7 +5,7 @@ use Rattle.flat_loader.specs.Alone.{Item}
 use Rattle.machine_world.specs.World.{Launch, Recording, World}
 use Rattle.machine_world.specs.Recordings.{is_recorded, launch_of, most_count, raised}
 use Rattle.machine_world.specs.Event.{maps_file, plain_item}
-use Rattle.stays_laws.specs.Stays.{Stay}
+use Rattle.alone_laws.specs.Stays.{Stay}
 use Rattle.recording_laws.specs.Homes.{calls_at, items_of, AreAtHome}
 
 -- ---- by notes and recording

@@ -7,8 +7,8 @@ use Rattle.machine_world.specs.Recordings.{is_recorded}
 use Rattle.machine_world.specs.Event.{Trace, went, event}
 use Rattle.machine_world.specs.Turns.{turn, turns}
 use Rattle.machine_world.specs.Boot.{StartLine, empty_world, boot}
-use Rattle.stays_laws.specs.Stays.{Stay, collect, collect_all, stays_along, first_stays}
-use Rattle.stays_laws.specs.Sound.{IsSound}
+use Rattle.alone_laws.specs.Stays.{Stay, collect, collect_all, stays_along, first_stays}
+use Rattle.alone_laws.specs.Sound.{IsSound}
 use Rattle.recording_laws.specs.Items.{AreRecorded, Tells}
 
 abbrev pub BootsRecord : Type 0

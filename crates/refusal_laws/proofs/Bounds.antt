@@ -30,8 +30,8 @@ use Rattle.machine_world.specs.Rows.{row, yield_row, brk_row}
 use Rattle.machine_world.specs.Recordings.{room_in}
 use Rattle.machine_world.specs.Event.{Trace, Outcome, went, strays, full, idle, number_of, args_of, put_got, ask_of, ended, room_for, stepped, trapped, served, put, waited, answered, exited, forked, executed, classed, asked, answer, settled, effect, in_space, by_process, at_process, event}
 use Rattle.machine_world.proofs.ByEvents.{Went}
-use Rattle.stays_laws.proofs.SoundBegins.{pages_free}
-use Rattle.stays_laws.proofs.Unmaps.{IsHit, is_hit}
+use Rattle.alone_laws.proofs.SoundBegins.{pages_free}
+use Rattle.alone_laws.proofs.Unmaps.{IsHit, is_hit}
 use Rattle.refusal_laws.specs.Regular.{memory_end, IsYounger}
 use Rattle.refusal_laws.specs.Bounded.{IsPlaced, IsWithin, IsBounded}
 use Rattle.refusal_laws.proofs.EachRow.{EachRow, each_row}

@@ -23,7 +23,7 @@ use Rattle.machine_world.specs.Laws.{refused_outcome}
 use Rattle.machine_world.proofs.ByEvents.{Went}
 use Rattle.machine_world.proofs.Refused.{is_refused, refusals_change_nothing_else}
 use Rattle.machine_world.proofs.States.{event_is}
-use Rattle.stays_laws.proofs.RowSpaces.{row-mmap2}
+use Rattle.alone_laws.proofs.RowSpaces.{row-mmap2}
 use Rattle.refusal_laws.specs.Calls.{Call, ask}
 use Rattle.refusal_laws.specs.Regular.{IsRegularWorld}
 use Rattle.refusal_laws.specs.Bounded.{IsWithin, IsBounded}

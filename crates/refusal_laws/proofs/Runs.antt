@@ -17,7 +17,7 @@ use Rattle.machine_world.proofs.Runnable.{ready_found, may_run_still}
 use Rattle.machine_world.proofs.Marks.{boots_leave_no_mark, events_leave_no_mark, turns_leave_no_mark}
 use Rattle.machine_world.proofs.CountedBoots.{boots_begin_counted}
 use Rattle.machine_world.proofs.CountedKept.{events_keep_counted, turns_keep_counted}
-use Rattle.stays_laws.proofs.SoundRuns.{boots_are_sound, events_keep_sound, turns_keep_sound}
+use Rattle.alone_laws.proofs.SoundRuns.{boots_are_sound, events_keep_sound, turns_keep_sound}
 use Rattle.refusal_laws.specs.Regular.{HasBreak, IsRegularWorld}
 use Rattle.refusal_laws.specs.Bounded.{IsWithin}
 use Rattle.refusal_laws.specs.Laws.{BootsAreRegular, EventsKeepRegular, TurnsKeepRegular, RunsKeepRegular}

@@ -27,8 +27,8 @@ use Rattle.machine_world.specs.Placements.{placed_page}
 use Rattle.machine_world.specs.Rows.{next_brk}
 use Rattle.machine_world.specs.Recordings.{is_recorded, with_brought}
 use Rattle.machine_world.specs.Event.{ask_of, entry_of, brought, with_bytes_of, room_for}
-use Rattle.stays_laws.proofs.SharedPages.{Passes, lowest_passes, fresh_run}
-use Rattle.stays_laws.proofs.Wanted.{IsWanted, is_wanted}
+use Rattle.alone_laws.proofs.SharedPages.{Passes, lowest_passes, fresh_run}
+use Rattle.alone_laws.proofs.Wanted.{IsWanted, is_wanted}
 use Rattle.refusal_laws.specs.Regular.{memory_end, IsYounger}
 use Rattle.refusal_laws.specs.Bounded.{IsPlaced, IsWithin, IsBounded}
 use Rattle.refusal_laws.proofs.EachRow.{chosen, wanted_by}

@@ -10,7 +10,7 @@ use Rattle.flat_loader.specs.Alone.{most_pages}
 use Rattle.machine_world.specs.World.{LiveSpace, World, pid_of}
 use Rattle.machine_world.specs.Ages.{kept_calls}
 use Rattle.machine_world.specs.Order.{IsCounted}
-use Rattle.stays_laws.specs.Sound.{most_given}
+use Rattle.alone_laws.specs.Sound.{most_given}
 use Rattle.refusal_laws.specs.Regular.{IsYounger, HasBreak}
 
 -- a copy lies in memory, and isn't anonymous, so that no pages are cut out of it

@@ -15,7 +15,7 @@ use Rattle.machine_world.specs.Recordings.{room_in}
 use Rattle.machine_world.specs.Turns.{turn, turns}
 use Rattle.machine_world.specs.Boot.{StartLine, no_run, started, boot}
 use Rattle.machine_world.specs.Laws.{refused_outcome}
-use Rattle.stays_laws.specs.Laws.{CanBoot}
+use Rattle.alone_laws.specs.Laws.{CanBoot}
 use Rattle.refusal_laws.specs.Calls.{Call, ask}
 use Rattle.refusal_laws.specs.Regular.{IsRegularWorld}
 use Rattle.refusal_laws.specs.NoRun.{LacksRun, LacksRunToStart, LacksRunToBoot}

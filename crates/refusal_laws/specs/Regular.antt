@@ -5,7 +5,7 @@ use Rattle.mmap_rules.specs.Space.{memory_base, page_size}
 use Rattle.flat_loader.specs.Alone.{most_pages}
 use Rattle.machine_world.specs.World.{Process, LiveSpace, World}
 use Rattle.machine_world.specs.Order.{IsCounted}
-use Rattle.stays_laws.specs.Sound.{IsSound}
+use Rattle.alone_laws.specs.Sound.{IsSound}
 
 -- where the largest memory ends
 abbrev pub memory_end : ℕ

@@ -9,8 +9,8 @@ use Rattle.flat_loader.specs.Frame.{frame_fits}
 use Rattle.flat_loader.specs.Alone.{Item, Solo}
 use Rattle.originals.specs.Originals.{elf_original}
 use Rattle.machine_world.specs.World.{LiveSpace, Process, id_of}
-use Rattle.stays_laws.specs.Stays.{Stay, Agrees, alone_end}
-use Rattle.stays_laws.proofs.Lists.{if_yes, if_no}
+use Rattle.alone_laws.specs.Stays.{Stay, Agrees, alone_end}
+use Rattle.alone_laws.proofs.Lists.{if_yes, if_no}
 use Rattle.replay_check.specs.declared.fault.ReplayFault.TheVariants as why
 use Rattle.replay_check.specs.declared.verdict.Verdict.{Verdict}
 use Rattle.replay_check.specs.declared.verdict.Verdict.TheVariants.{Yes, No}

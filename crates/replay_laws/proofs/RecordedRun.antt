@@ -24,7 +24,7 @@ use Rattle.machine_world.specs.World.{Launch, Process, Recording, Rest, World}
 use Rattle.machine_world.specs.Boot.{StartLine}
 use Rattle.machine_world.specs.Event.{Trace}
 use Rattle.machine_world.specs.MapCalls.{with_mapping}
-use Rattle.stays_laws.specs.Stays.{Stay}
+use Rattle.alone_laws.specs.Stays.{Stay}
 
 -- ---- its programs: openat("/f"), mmap2(0, 1, 0, MAP_PRIVATE, 3, 0), a vfork, execve("/y", 0, 0), and behind the text both paths
 

@@ -15,9 +15,9 @@ use Rattle.machine_world.proofs.Kept.{kept_outside}
 use Rattle.machine_world.proofs.ByRows.{by_rows}
 use Rattle.machine_world.proofs.ByEvents.{Answered, Happened, Keeps, by_event, by_turns}
 use Rattle.vfork_exec.specs.Procs.{most_entries}
-use Rattle.stays_laws.specs.Laws.{CanBoot}
-use Rattle.stays_laws.specs.Stays.{Stay, AreRight, first_stays, loads_of, head_of, loaded_head, original_at}
-use Rattle.stays_laws.proofs.StaysRuns.{boots_begin_stays, runs_keep_stays}
+use Rattle.alone_laws.specs.Laws.{CanBoot}
+use Rattle.alone_laws.specs.Stays.{Stay, AreRight, first_stays, loads_of, head_of, loaded_head, original_at}
+use Rattle.alone_laws.proofs.StaysRuns.{boots_begin_stays, runs_keep_stays}
 use Rattle.replay_check.specs.declared.verdict.Verdict.TheVariants.{Yes}
 use Rattle.replay_check.specs.Replays.{OriginalFile, replayed}
 use Rattle.recorded_items.specs.Laws.{items_of_stay, stay_of, stays_behind, AreStrings}

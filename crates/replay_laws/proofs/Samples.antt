@@ -45,8 +45,8 @@ use Rattle.machine_world.specs.Event.{Trace, Outcome, went, full, ask_of, maps_f
 use Rattle.machine_world.specs.Turns.{Walk, End, out_of_quanta, walked as walked_on, going_on, turned, turn, turns}
 use Rattle.machine_world.specs.Boot.{started, all_started, boot}
 use Rattle.items_text.specs.Items.{ItemsValue}
-use Rattle.stays_laws.specs.Stays.{change_at, collect_all}
-use Rattle.stays_laws.proofs.LaidBytes.{read_back}
+use Rattle.alone_laws.specs.Stays.{change_at, collect_all}
+use Rattle.alone_laws.proofs.LaidBytes.{read_back}
 use Rattle.recording_laws.specs.Homes.{loads_in, home, calls_at}
 use Rattle.recording_laws.specs.Items.{with_lists}
 use Rattle.recorded_items.specs.Recorded.{recorded}

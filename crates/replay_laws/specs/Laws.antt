@@ -11,8 +11,8 @@ use Rattle.machine_world.specs.World.{Program, Rest, World}
 use Rattle.machine_world.specs.Recordings.{most_count}
 use Rattle.machine_world.specs.Turns.{turns}
 use Rattle.machine_world.specs.Boot.{StartLine, boot}
-use Rattle.stays_laws.specs.Stays.{Stay, AreRight, loads_of}
-use Rattle.stays_laws.specs.Laws.{CanBoot}
+use Rattle.alone_laws.specs.Stays.{Stay, AreRight, loads_of}
+use Rattle.alone_laws.specs.Laws.{CanBoot}
 use Rattle.run_setup.specs.Brought.{Brought, nothing_brought, all_brought}
 use Rattle.replay_check.specs.declared.verdict.Verdict.TheVariants.{Yes}
 use Rattle.replay_check.specs.Replays.{OriginalFile, replayed}

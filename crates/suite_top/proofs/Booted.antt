@@ -16,7 +16,7 @@ use Rattle.machine_world.specs.World.{Rest, World}
 use Rattle.machine_world.specs.Boot.{StartLine, BootFault, bad_start, args_too_big, no_run, Found, found, start_path, placed, fitting, located, started, then_started, all_started, empty_world, begun, boot}
 use Rattle.kept_parts.specs.Stands.{world_of}
 use Rattle.machine_world.specs.Turns.{turns}
-use Rattle.physical_turns.specs.Physical.{Physical, turns_in, opening_in}
+use Rattle.memory_world.specs.Physical.{Physical, turns_in, opening_in}
 use Rattle.flat_machine.specs.declared.boot.BootRefusal.{BootRefusal}
 use Rattle.flat_machine.specs.declared.boot.BootRefusal.TheVariants as refusal
 use Rattle.region_watch.specs.declared.mode.Mode.{Mode}

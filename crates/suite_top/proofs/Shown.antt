@@ -6,7 +6,7 @@ use Rattle.manifest_text.specs.declared.manifest.Dump.{Dump}
 use Rattle.manifest_text.specs.declared.manifest.WatchLine.{WatchLine}
 use Rattle.machine_world.specs.World.{World}
 use Rattle.machine_world.specs.Turns.{turns}
-use Rattle.physical_turns.specs.Physical.{Physical, turns_in, has_stray, opening_in}
+use Rattle.memory_world.specs.Physical.{Physical, turns_in, has_stray, opening_in}
 use Rattle.kept_parts.specs.InMemory.{physical_of}
 use Rattle.region_watch.specs.declared.mode.Mode.{Mode}
 use Rattle.region_watch.specs.declared.mode.Mode.TheVariants.{Halt, GoOn}

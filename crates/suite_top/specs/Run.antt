@@ -9,7 +9,7 @@ use Rattle.manifest_text.specs.Manifest.{Fault, manifest_of}
 use Rattle.machine_world.specs.World.{Rest, World}
 use Rattle.machine_world.specs.Boot.{StartLine, BootFault, bad_start, args_too_big, no_run, boot}
 use Rattle.machine_world.specs.Turns.{Walk, turns}
-use Rattle.physical_turns.specs.Physical.{Physical, WalkIn, turns_in, opening_in}
+use Rattle.memory_world.specs.Physical.{Physical, WalkIn, turns_in, opening_in}
 use Rattle.region_watch.specs.declared.mode.Mode.{Mode}
 use Rattle.region_watch.specs.declared.mode.Mode.TheVariants.{Halt, GoOn}
 use Rattle.flat_machine.specs.Runs.{repeated}

@@ -5,7 +5,7 @@ use Rattle.quantum_sched.specs.declared.Quantum.{Quantum}
 use Rattle.region_watch.specs.declared.mode.Mode.TheVariants.{Halt, GoOn}
 use Rattle.machine_world.specs.World.{World}
 use Rattle.machine_world.specs.Turns.{turns}
-use Rattle.physical_turns.specs.Physical.{turns_in}
+use Rattle.memory_world.specs.Physical.{turns_in}
 use Rattle.flat_machine.specs.State.{State, world, one_memory}
 use Rattle.flat_machine.specs.Runs.{repeated}
 use Rattle.file_commands.specs.declared.answer.Answer.{Answer}

@@ -9,7 +9,7 @@ ghost use Rattle.manifest_text.specs.Laws.{AreWatches, IsItem, Reasonable};
 ghost use Rattle.machine_world.specs.Ages.{AreChanged, most_at_boot};
 ghost use Rattle.machine_world.specs.Boot.{boot};
 ghost use Rattle.kept_parts.specs.InMemory.{headers_of};
-ghost use Rattle.physical_turns.specs.Physical.{has_stray, opening_in};
+ghost use Rattle.memory_world.specs.Physical.{has_stray, opening_in};
 ghost use Rattle.flat_machine.specs.State.{world, one_memory, rest_of, lines_of};
 ghost use Rattle.watch_points.specs.Points.{IsPoint, kind_of_point};
 ghost use Rattle.file_commands.specs.Observed.{observed};

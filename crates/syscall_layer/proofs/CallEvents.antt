@@ -6,9 +6,9 @@ use Rattle.rv32im_step.specs.declared.stop.Stop.TheVariants.{Call}
 use Rattle.machine_world.specs.Event.{stray_in, event, called, stray}
 use Rattle.machine_world.specs.Courses.{StandsAt}
 use Rattle.machine_world.proofs.States.{is_called}
-use Rattle.physical_turns.specs.Physical.{Physical, has_stray, first_stray_in, with_stray, event_in, carried_out, called_in}
-use Rattle.physical_turns.specs.Courses.{StandsIn}
-use Rattle.physical_turns.proofs.Moves.{carried_called}
+use Rattle.memory_world.specs.Physical.{Physical, has_stray, first_stray_in, with_stray, event_in, carried_out, called_in}
+use Rattle.memory_world.specs.Courses.{StandsIn}
+use Rattle.memory_world.proofs.Moves.{carried_called}
 use Rattle.kept_parts.specs.InMemory.{first_range, called_on}
 use Rattle.syscall_layer.specs.CallEvents.{CallsAreEvents}
 

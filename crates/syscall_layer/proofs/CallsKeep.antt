@@ -15,10 +15,10 @@ use Rattle.machine_world.specs.Rows.{row}
 use Rattle.machine_world.specs.Event.{Outcome, went, strays, full, idle, ended, ask_of, answer, settled, trapped, in_space, by_process, at_process, called, died}
 use Rattle.machine_world.proofs.Kept.{Answers}
 use Rattle.machine_world.proofs.ByEvents.{Answered as CallHas, Happened, Keeps, by_effect}
-use Rattle.physical_turns.specs.Physical.{Physical, After, after, no_room, nobody, has_stray, settled_in, answer_in, called_in}
-use Rattle.physical_turns.specs.Physical as physical
-use Rattle.physical_turns.specs.After.{AfterHas}
-use Rattle.physical_turns.proofs.ByEventsIn.{Steady, by_effect_in}
+use Rattle.memory_world.specs.Physical.{Physical, After, after, no_room, nobody, has_stray, settled_in, answer_in, called_in}
+use Rattle.memory_world.specs.Physical as physical
+use Rattle.memory_world.specs.After.{AfterHas}
+use Rattle.memory_world.proofs.ByEventsIn.{Steady, by_effect_in}
 use Rattle.kept_parts.specs.declared.served.Served.{Served}
 use Rattle.kept_parts.specs.declared.served.Served.TheVariants as served
 use Rattle.kept_parts.specs.declared.reach.Reach.{Reach}

@@ -43,8 +43,8 @@ use Rattle.machine_world.specs.Descriptors.{pipe2_row}
 use Rattle.machine_world.specs.Transfers.{write_row}
 use Rattle.machine_world.specs.Event.{ended, stepped, trapped, served, exited, answer, settled, at_process as private_process, called, event, stray}
 use Rattle.machine_world.specs.Boot.{BootFault, started, all_started, boot}
-use Rattle.physical_turns.specs.Physical.{Physical, After, after, no_room, nobody, laid_behind, waitid_in, answer_in, at_process_in, called_in, carried_out, event_in, turn_in, turns_in, first_memory, opening_in}
-use Rattle.physical_turns.proofs.Samples.{caller, still, rest_of, start, q, loaded_at, headers}
+use Rattle.memory_world.specs.Physical.{Physical, After, after, no_room, nobody, laid_behind, waitid_in, answer_in, at_process_in, called_in, carried_out, event_in, turn_in, turns_in, first_memory, opening_in}
+use Rattle.memory_world.proofs.Samples.{caller, still, rest_of, start, q, loaded_at, headers}
 use Rattle.kept_parts.specs.Kept.{Kept, nothing_yet}
 use Rattle.kept_parts.specs.Copies.{KnowsFile, HoldsFiles, StillHolds}
 use Rattle.syscall_layer.specs.Parts.{AreTied}

@@ -28,8 +28,8 @@ use Rattle.file_calls.specs.declared.outcome.Outcome.{Outcome as Output}
 use Rattle.file_calls.specs.declared.outcome.Then.TheVariants.{Nothing}
 use Rattle.file_calls.specs.Calls.{got_of}
 use Rattle.flat_loader.specs.Alone.{put_got}
-use Rattle.physical_turns.specs.Physical.{Physical, After, after, no_room, in_memory, laid_behind, behind, carried, outside, killed, put_in, answered_in, full_at, reaped_in, waitid_behind_in, waitid_in}
-use Rattle.physical_turns.proofs.InMemory.{answered_begins, waited_begins}
+use Rattle.memory_world.specs.Physical.{Physical, After, after, no_room, in_memory, laid_behind, behind, carried, outside, killed, put_in, answered_in, full_at, reaped_in, waitid_behind_in, waitid_in}
+use Rattle.memory_world.proofs.InMemory.{answered_begins, waited_begins}
 use Rattle.kept_parts.specs.declared.task.Task.{Task}
 use Rattle.kept_parts.specs.declared.effect.Effect.TheVariants.{Answer}
 use Rattle.kept_parts.specs.declared.reach.Reach.{Reach}

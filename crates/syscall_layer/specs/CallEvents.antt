@@ -2,8 +2,8 @@
 use Rattle.std.specs.Prelude.{◌≡◌, ℕ, false}
 use Rattle.rv32im_step.specs.declared.stop.Stop.TheVariants.{Call}
 use Rattle.machine_world.specs.Courses.{StandsAt}
-use Rattle.physical_turns.specs.Physical.{Physical, has_stray, event_in}
-use Rattle.physical_turns.specs.Courses.{StandsIn}
+use Rattle.memory_world.specs.Physical.{Physical, has_stray, event_in}
+use Rattle.memory_world.specs.Courses.{StandsIn}
 use Rattle.kept_parts.specs.InMemory.{called_on}
 
 -- where the next instruction of a process is an ECALL, over all of memory and, up to the run's first stray access, over its own bytes

@@ -4,7 +4,7 @@ use Rattle.bflt_format.specs.Values.{Values}
 use Rattle.rv32im_step.specs.declared.access.Access.{Access}
 use Rattle.call_log.specs.declared.how.Seen.{Seen}
 use Rattle.call_log.specs.Notes.{Note}
-use Rattle.physical_turns.specs.Physical.{has_stray}
+use Rattle.memory_world.specs.Physical.{has_stray}
 use Rattle.region_watch.specs.declared.mode.Mode.{Mode}
 use Rattle.region_watch.specs.declared.mode.Mode.TheVariants.{Halt, GoOn}
 use Rattle.kept_parts.specs.InMemory.{with_range}

@@ -23,7 +23,7 @@ ghost use Rattle.file_calls.specs.Outcomes.{GivesRow, CanTake, HasEnds};
 ghost use Rattle.kept_parts.specs.declared.task.Task.{Task};
 ghost use Rattle.kept_parts.specs.Stands.{About, process_of, world_of};
 ghost use Rattle.region_watch.specs.Private.{physical};
-ghost use Rattle.physical_turns.specs.Physical.{outside, has_stray, carried, killed, settled_in, answered_in, classed_in, called_in};
+ghost use Rattle.memory_world.specs.Physical.{outside, has_stray, carried, killed, settled_in, answered_in, classed_in, called_in};
 ghost use Rattle.region_watch.specs.declared.mode.Mode.TheVariants.{Halt, GoOn};
 ghost use Rattle.kept_parts.specs.declared.reach.Reach.TheVariants.{Own, Whole};
 ghost use Rattle.kept_parts.specs.declared.served.Served.TheVariants.{Replied, TurnEnds, Waits, Stray};

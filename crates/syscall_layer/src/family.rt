@@ -15,7 +15,7 @@ ghost use Rattle.file_calls.specs.declared.outcome.Then.TheVariants.{Nothing};
 ghost use Rattle.kept_parts.specs.Families.{info_of, mark_at};
 ghost use Rattle.kept_parts.specs.Stands.{About, world_of};
 ghost use Rattle.region_watch.specs.Private.{physical};
-ghost use Rattle.physical_turns.specs.Physical.{has_stray, carried, reaped_in, waitid_in};
+ghost use Rattle.memory_world.specs.Physical.{has_stray, carried, reaped_in, waitid_in};
 ghost use Rattle.kept_parts.specs.declared.reach.Reach.TheVariants.{Own, Whole};
 ghost use Rattle.kept_parts.specs.InMemory.{headers_of, physical_of, ServesIn, InReach};
 ghost use Rattle.kept_parts.specs.Copies.{HoldsFiles};

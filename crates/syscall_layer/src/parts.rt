@@ -4,7 +4,7 @@ ghost use Rattle.std.specs.Prelude.{◌≡◌, ℕ, List, IfOk, OnErr, option_ma
 ghost use Rattle.vfork_exec.specs.Procs.{CanRun};
 ghost use Rattle.machine_world.specs.Event.{died};
 ghost use Rattle.machine_world.specs.Turns.{seen_of};
-ghost use Rattle.physical_turns.specs.Physical.{has_stray, died_in};
+ghost use Rattle.memory_world.specs.Physical.{has_stray, died_in};
 ghost use Rattle.kept_parts.specs.Awake.{awake_in};
 ghost use Rattle.kept_parts.specs.InMemory.{DiesIn, physical_of, without_newest};
 ghost use Rattle.kept_parts.specs.Regular.{IsRegular};

@@ -17,7 +17,7 @@ use Rattle.machine_world.specs.Free.{free}
 use Rattle.machine_world.specs.Boot.{StartLine, BootFault, Found, found, start_path, begun, taken, placed, fitting, located, started, all_started, then_started, empty_world, boot}
 use Rattle.machine_world.proofs.CountedBoots.{boots_begin_counted}
 use Rattle.machine_world.proofs.Marks.{boots_leave_no_mark}
-use Rattle.stays_laws.proofs.SoundRuns.{boots_are_sound}
+use Rattle.alone_laws.proofs.SoundRuns.{boots_are_sound}
 use Rattle.waits_laws.specs.Waits.{WaitsAgain, IfWaits}
 use Rattle.waits_laws.specs.Laws.{IsOrdered, BootsWaitWell}
 

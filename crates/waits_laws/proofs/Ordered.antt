@@ -7,7 +7,7 @@ use Rattle.machine_world.specs.Event.{Trace, went, event}
 use Rattle.machine_world.specs.Turns.{turn, turns}
 use Rattle.machine_world.proofs.CountedKept.{events_keep_counted, turns_keep_counted, runs_keep_counted}
 use Rattle.machine_world.proofs.Marks.{events_leave_no_mark, turns_leave_no_mark, runs_leave_no_mark}
-use Rattle.stays_laws.proofs.SoundRuns.{events_keep_sound, turns_keep_sound, runs_keep_sound}
+use Rattle.alone_laws.proofs.SoundRuns.{events_keep_sound, turns_keep_sound, runs_keep_sound}
 use Rattle.waits_laws.specs.Laws.{IsOrdered}
 
 pub events_keep_ordered : (w : World) (pid : ℕ) (now : World) (t : Trace) → IsOrdered w → MayRun w pid → event w pid ≡ went now t → IsOrdered now

@@ -12,7 +12,7 @@ use Rattle.machine_world.specs.Families.{MayRun, ready_pids}
 use Rattle.machine_world.specs.Event.{Outcome, went, strays, full, idle, noted, event}
 use Rattle.machine_world.specs.Turns.{Walk, End, seen_of, remains_at, traced, turned, turn, going_on, quantum_turn, turns}
 use Rattle.machine_world.proofs.Runnable.{ready_found, may_run_still}
-use Rattle.stays_laws.proofs.SoundRuns.{events_keep_sound}
+use Rattle.alone_laws.proofs.SoundRuns.{events_keep_sound}
 use Rattle.waits_laws.specs.Waits.{WaitsAgain, IfWaits, WaitsWell}
 use Rattle.waits_laws.specs.Laws.{IsOrdered, EventsKeepWaits, TurnsKeepWaits, RunsKeepWaits}
 use Rattle.waits_laws.proofs.Again.{waits_again}

@@ -12,8 +12,8 @@ use Rattle.machine_world.specs.Event.{Trace, went, event}
 use Rattle.machine_world.specs.Turns.{stuck, turn, turns}
 use Rattle.machine_world.specs.Boot.{StartLine, boot}
 use Rattle.machine_world.specs.Order.{IsCounted}
-use Rattle.stays_laws.specs.Sound.{IsSound}
-use Rattle.stays_laws.specs.Laws.{CanBoot}
+use Rattle.alone_laws.specs.Sound.{IsSound}
+use Rattle.alone_laws.specs.Laws.{CanBoot}
 use Rattle.waits_laws.specs.Waits.{WaitsAgain, HasVforkChild, WaitsWell}
 
 -- a world that is sound, in which what is open is counted exactly and no pipe is marked, as every world of a run

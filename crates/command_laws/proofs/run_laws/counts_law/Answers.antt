@@ -1,6 +1,6 @@
 -- What a run begins with is in order, and its turns keep it so, over private spaces and over one memory.
-use Rattle.physical_turns.specs.Physical.{opening_in}
-use Rattle.physical_turns.proofs.OrderIn.{openings_keep_order, runs_keep_order_in}
+use Rattle.memory_world.specs.Physical.{opening_in}
+use Rattle.memory_world.proofs.OrderIn.{openings_keep_order, runs_keep_order_in}
 use Rattle.command_laws.proofs.BootedRuns.{begins_in_order, has_worlds_in_order}
 use Rattle.command_laws.proofs.RunLaws.{reasonable}
 use Rattle.command_laws.proofs.run_laws.counts_law.Goals as goal

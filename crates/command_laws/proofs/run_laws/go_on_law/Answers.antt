@@ -3,8 +3,8 @@ use Rattle.std.proofs.Common.{◌≡◌, ◌≢◌, ℕ, Bool, false, List, ◌+
 use Rattle.page_runs.specs.declared.place.Kind.{Kind}
 use Rattle.rv32im_step.specs.declared.access.Access.{Access}
 use Rattle.machine_world.specs.Turns.{stray_at}
-use Rattle.physical_turns.specs.Physical.{Physical, has_stray, opening_in}
-use Rattle.physical_turns.proofs.Growth.{runs_leave_programs}
+use Rattle.memory_world.specs.Physical.{Physical, has_stray, opening_in}
+use Rattle.memory_world.proofs.Growth.{runs_leave_programs}
 use Rattle.go_on_laws.specs.Alike.{Stands}
 use Rattle.go_on_laws.specs.Laws.{GoesAlike}
 use Rattle.go_on_laws.proofs.Boots.{boots_go_on, boots_note_no_stray}

@@ -3,7 +3,7 @@ use Rattle.std.proofs.Common.{Ok, List, refl, ◌≡◌, ◌≢◌, ◌+◌, ◌
 use Rattle.page_runs.specs.Choosers.{kind_of}
 use Rattle.bflt_format.specs.Values.{Values}
 use Rattle.rv32im_step.specs.declared.stop.Stop.TheVariants.{Next}
-use Rattle.physical_turns.specs.Physical.{has_stray}
+use Rattle.memory_world.specs.Physical.{has_stray}
 use Rattle.kept_parts.specs.Flats.{ForRuns}
 use Rattle.kept_parts.specs.Stands.{later}
 use Rattle.kept_parts.specs.InMemory.{headers_of, physical_of}

@@ -2,7 +2,7 @@
 use Rattle.std.proofs.Common.{◌≡◌, ◌-◌, ◌≤◌}
 use Rattle.page_runs.specs.Choosers.{kind_of}
 use Rattle.vfork_exec.specs.Procs.{CanRun}
-use Rattle.physical_turns.specs.Physical.{has_stray}
+use Rattle.memory_world.specs.Physical.{has_stray}
 use Rattle.region_watch.specs.declared.mode.Mode.TheVariants.{Halt, GoOn}
 use Rattle.watch_points.specs.Points.{kind_of_point}
 use Rattle.flat_machine.proofs.TurnsOn.{HaltReached, GoOnReached}

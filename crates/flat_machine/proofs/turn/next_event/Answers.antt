@@ -6,7 +6,7 @@ use Rattle.rv32im_step.specs.declared.access.Access.{Access}
 use Rattle.rv32im_step.specs.declared.stop.Stop.TheVariants.{Refused}
 use Rattle.vfork_exec.specs.Procs.{CanRun}
 use Rattle.machine_world.specs.Event.{Outcome, strays, event}
-use Rattle.physical_turns.specs.Physical.{has_stray, first_stray_in}
+use Rattle.memory_world.specs.Physical.{has_stray, first_stray_in}
 use Rattle.kept_parts.specs.Copies.{HoldsFiles}
 use Rattle.kept_parts.specs.Flats.{ForRuns}
 use Rattle.kept_parts.specs.InMemory.{headers_of, physical_of}

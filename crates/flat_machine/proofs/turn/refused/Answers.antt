@@ -1,7 +1,7 @@
 -- Out of reach of its own bytes an access strays, and out of memory it ends its process.
 use Rattle.std.proofs.Common.{sym, ap, ◌∙◌}
 use Rattle.std.proofs.lemmas.Bool.{false≢true}
-use Rattle.physical_turns.specs.Physical.{died_in, outside}
+use Rattle.memory_world.specs.Physical.{died_in, outside}
 use Rattle.kept_parts.specs.InMemory.{physical_of}
 use Rattle.syscall_layer.specs.Parts.{RunParts}
 use Rattle.flat_machine.specs.State.{is_whole}

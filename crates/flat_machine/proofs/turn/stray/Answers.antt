@@ -3,7 +3,7 @@ use Rattle.std.proofs.Common.{◌≡◌, rules, sym, ap, subst, ◌∙◌}
 use Rattle.std.specs.Prelude.{IfOk, OnErr}
 use Rattle.std.proofs.lemmas.Result.{on_ok_weaker, on_err_weaker}
 use Rattle.page_runs.specs.Choosers.{kind_of}
-use Rattle.physical_turns.specs.Physical.{has_stray}
+use Rattle.memory_world.specs.Physical.{has_stray}
 use Rattle.kept_parts.specs.InMemory.{headers_of, physical_of}
 use Rattle.kept_parts.specs.Stands.{later}
 use Rattle.syscall_layer.specs.Parts.{RunParts, noted_by}

@@ -4,8 +4,8 @@ use Rattle.std.specs.Prelude.{OnErr}
 use Rattle.std.proofs.lemmas.Bool.{false≢true}
 use Rattle.bflt_format.specs.Values.{Values}
 use Rattle.rv32im_step.specs.declared.stop.Stop.TheVariants.{Next}
-use Rattle.physical_turns.specs.Physical.{has_stray}
-use Rattle.physical_turns.specs.Courses.{LeadsIn}
+use Rattle.memory_world.specs.Physical.{has_stray}
+use Rattle.memory_world.specs.Courses.{LeadsIn}
 use Rattle.page_runs.specs.Choosers.{kind_of}
 use Rattle.region_watch.specs.declared.mode.Mode.TheVariants.{Halt, GoOn}
 use Rattle.kept_parts.specs.Flats.{AreFlats}

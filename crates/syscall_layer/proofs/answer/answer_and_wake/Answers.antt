@@ -3,7 +3,7 @@ use Rattle.std.proofs.Common.{sym, ◌∙◌}
 use Rattle.std.specs.Prelude.{Ok, Err}
 use Rattle.std.proofs.lemmas.Result.{err_from_is_err_and}
 use Rattle.machine_world.specs.Event.{classed}
-use Rattle.physical_turns.specs.Physical.{classed_in, settled_in}
+use Rattle.memory_world.specs.Physical.{classed_in, settled_in}
 use Rattle.kept_parts.specs.Stands.{world_of}
 use Rattle.kept_parts.specs.Calls.{asked_by}
 use Rattle.kept_parts.specs.InMemory.{headers_of, physical_of}

@@ -8,8 +8,8 @@ use Rattle.machine_world.specs.Asks.{Row, answers, with_ok}
 use Rattle.machine_world.specs.MapCalls.{mapped}
 use Rattle.machine_world.specs.Event.{answered}
 use Rattle.machine_world.specs.Rows.{row}
-use Rattle.physical_turns.specs.Physical.{carried}
-use Rattle.physical_turns.proofs.InMemory.{answered_begins}
+use Rattle.memory_world.specs.Physical.{carried}
+use Rattle.memory_world.proofs.InMemory.{answered_begins}
 use Rattle.kept_parts.specs.Kept.{Kept}
 use Rattle.kept_parts.specs.Stands.{About, world_of}
 use Rattle.kept_parts.specs.Serves.{Serves}

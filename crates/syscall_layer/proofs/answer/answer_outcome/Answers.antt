@@ -4,7 +4,7 @@ use Rattle.std.specs.Prelude.{option_map, length, Ok, Err}
 use Rattle.std.proofs.lemmas.Result.{err_from_is_err_and}
 use Rattle.file_calls.specs.Calls.{got_of}
 use Rattle.machine_world.specs.Asks.{replies}
-use Rattle.physical_turns.specs.Physical.{After, answered_in}
+use Rattle.memory_world.specs.Physical.{After, answered_in}
 use Rattle.kept_parts.specs.declared.reach.Reach.{Reach}
 use Rattle.kept_parts.specs.declared.reach.Reach.TheVariants.{Own}
 use Rattle.kept_parts.specs.declared.served.Served.TheVariants.{Replied, LogFull}

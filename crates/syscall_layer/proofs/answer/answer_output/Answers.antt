@@ -4,7 +4,7 @@ use Rattle.std.specs.Prelude.{Err}
 use Rattle.std.proofs.lemmas.Result.{err_from_is_err_and}
 use Rattle.machine_world.specs.Asks.{Row}
 use Rattle.machine_world.specs.Rows.{row}
-use Rattle.physical_turns.specs.Physical.{answered_in}
+use Rattle.memory_world.specs.Physical.{answered_in}
 use Rattle.kept_parts.specs.InMemory.{physical_of, InReach}
 use Rattle.kept_parts.specs.Calls.{asked_by}
 use Rattle.kept_parts.proofs.Outcomes.{made_by, files_in, tree_in, output_answers}

@@ -3,7 +3,7 @@ use Rattle.std.proofs.Common.{refl, sym, ◌∙◌}
 use Rattle.std.proofs.lemmas.Result.{err_from_is_err_and}
 use Rattle.machine_world.specs.MapCalls.{mapped}
 use Rattle.machine_world.specs.Event.{answered}
-use Rattle.physical_turns.proofs.InMemory.{answered_begins}
+use Rattle.memory_world.proofs.InMemory.{answered_begins}
 use Rattle.kept_parts.specs.declared.served.Served.TheVariants.{LogFull}
 use Rattle.kept_parts.specs.Stands.{world_of}
 use Rattle.kept_parts.specs.Calls.{asked_by}

@@ -3,7 +3,7 @@ use Rattle.std.proofs.Common.{◌≡◌, refl, sym, ap, subst, rules, ◌∙◌}
 use Rattle.std.specs.Prelude.{Ok, IfOk, OnErr}
 use Rattle.std.proofs.lemmas.Result.{on_ok_weaker}
 use Rattle.page_runs.specs.Choosers.{kind_of}
-use Rattle.physical_turns.specs.Physical.{called_in}
+use Rattle.memory_world.specs.Physical.{called_in}
 use Rattle.kept_parts.specs.InMemory.{headers_of, physical_of, InReach}
 use Rattle.kept_parts.specs.Reach.{is_whole}
 use Rattle.kept_parts.specs.declared.reach.Reach.{Reach}

@@ -4,7 +4,7 @@ use Rattle.std.specs.Prelude.{Some, Err, Ok}
 use Rattle.std.proofs.lemmas.Result.{err_from_is_err_and}
 use Rattle.page_runs.specs.Choosers.{kind_of}
 use Rattle.vfork_exec.specs.Procs.{value_at}
-use Rattle.physical_turns.specs.Physical.{called_in}
+use Rattle.memory_world.specs.Physical.{called_in}
 use Rattle.call_bytes.specs.declared.reading.Unread.{Unread}
 use Rattle.call_bytes.specs.declared.reading.Unread.TheVariants.{Stray}
 use Rattle.kept_parts.specs.Kept.{Kept}

@@ -13,7 +13,7 @@ use Rattle.kept_parts.specs.Inside.{kept_of}
 use Rattle.kept_parts.specs.Regular.{Regular}
 use Rattle.kept_parts.specs.Stands.{world_of}
 use Rattle.call_bytes.specs.Puts.{IsRange}
-use Rattle.physical_turns.specs.Physical.{answered_in, reaped_in}
+use Rattle.memory_world.specs.Physical.{answered_in, reaped_in}
 use Rattle.kept_parts.specs.InMemory.{physical_of, InReach}
 use Rattle.kept_parts.specs.Serves.{Answered, Tells}
 use Rattle.kept_parts.specs.Calls.{asked_by, output_reply}

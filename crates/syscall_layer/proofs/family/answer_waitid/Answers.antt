@@ -12,7 +12,7 @@ use Rattle.kept_parts.specs.Kept.{Kept}
 use Rattle.kept_parts.specs.Inside.{kept_of}
 use Rattle.kept_parts.specs.Regular.{Regular}
 use Rattle.kept_parts.specs.Stands.{world_of}
-use Rattle.physical_turns.specs.Physical.{waitid_in}
+use Rattle.memory_world.specs.Physical.{waitid_in}
 use Rattle.kept_parts.specs.InMemory.{physical_of, InReach}
 use Rattle.kept_parts.specs.Serves.{Answered}
 use Rattle.kept_parts.specs.Calls.{asked_by}

@@ -10,11 +10,11 @@ use Rattle.machine_world.specs.Boot.{all_started, boot}
 use Rattle.vfork_exec.specs.Procs.{count, most_entries}
 use Rattle.fd_tables.specs.Files.{OpenFiles}
 use Rattle.kept_parts.specs.Kept.{Kept}
-use Rattle.physical_turns.specs.Physical.{has_stray}
+use Rattle.memory_world.specs.Physical.{has_stray}
 use Rattle.kept_parts.specs.InMemory.{headers_of}
 use Rattle.kept_parts.specs.Reach.{reach_of}
 use Rattle.kept_parts.specs.Stands.{world_of}
-use Rattle.stays_laws.proofs.StaysRuns.{boots_begin_stays}
+use Rattle.alone_laws.proofs.StaysRuns.{boots_begin_stays}
 use Rattle.flat_machine.specs.State.{about_boot, line_of, lines_of, rest_of}
 use Rattle.flat_machine.proofs.Booted.{more_pids, more_spaces, more_processes, more_pages, more_quiet, left_on, left_fails, left_none, fails_as, boots_from, machine_boots, machine_loads, parts_boot, whole_reached}
 use Rattle.flat_machine.proofs.BootedIn.{lays_none, opened}

@@ -4,7 +4,7 @@ use Rattle.page_runs.specs.Choosers.{kind_of}
 use Rattle.vfork_exec.specs.Procs.{count}
 use Rattle.machine_world.specs.Boot.{all_started}
 use Rattle.region_watch.specs.Private.{physical}
-use Rattle.physical_turns.specs.Physical.{has_stray, first_memory}
+use Rattle.memory_world.specs.Physical.{has_stray, first_memory}
 use Rattle.kept_parts.specs.InMemory.{headers_of}
 use Rattle.kept_parts.specs.Stands.{world_of}
 use Rattle.flat_machine.specs.State.{about_boot, lines_of}

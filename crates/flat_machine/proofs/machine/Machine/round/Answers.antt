@@ -3,7 +3,7 @@ use Rattle.std.proofs.Common.{◌≡◌, [], Option, Some, None, Ok, refl, sym, 
 use Rattle.std.proofs.lemmas.List.Sums.{sum_by-drop_more}
 use Rattle.quantum_sched.specs.declared.Quantum.{Quantum}
 use Rattle.machine_world.proofs.RunLaws.{comes_none}
-use Rattle.physical_turns.proofs.TurnsIn.{comes_in_none}
+use Rattle.memory_world.proofs.TurnsIn.{comes_in_none}
 use Rattle.region_watch.specs.declared.mode.Mode.TheVariants.{Halt}
 use Rattle.flat_machine.specs.declared.run.End.{End as Told}
 use Rattle.flat_machine.specs.LeavesIn.{is_stray}

@@ -2,8 +2,8 @@
 use Rattle.std.proofs.Common.{◌≡◌, ◌+◌, ◌≤◌, false, None, Ok, take, drop}
 use Rattle.std.specs.Prelude.{sum_by}
 use Rattle.machine_world.specs.Courses.{Comes}
-use Rattle.physical_turns.specs.Physical.{has_stray}
-use Rattle.physical_turns.specs.Courses.{ComesIn}
+use Rattle.memory_world.specs.Physical.{has_stray}
+use Rattle.memory_world.specs.Courses.{ComesIn}
 use Rattle.region_watch.specs.declared.mode.Mode.TheVariants.{GoOn}
 use Rattle.flat_machine.specs.State.{world, one_memory}
 use Rattle.kept_parts.specs.Copies.{HoldsFiles}

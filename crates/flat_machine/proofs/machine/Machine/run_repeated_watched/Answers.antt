@@ -4,8 +4,8 @@ use Rattle.std.specs.Prelude.{sum_by}
 use Rattle.quantum_sched.specs.declared.Quantum.{Quantum}
 use Rattle.machine_world.specs.Turns.{turns}
 use Rattle.machine_world.proofs.RunLaws.{comes_none}
-use Rattle.physical_turns.proofs.TurnsIn.{comes_in_none}
-use Rattle.physical_turns.specs.Physical.{has_stray}
+use Rattle.memory_world.proofs.TurnsIn.{comes_in_none}
+use Rattle.memory_world.specs.Physical.{has_stray}
 use Rattle.region_watch.specs.declared.mode.Mode.TheVariants.{Halt, GoOn}
 use Rattle.kept_parts.specs.Stands.{world_of}
 use Rattle.flat_machine.specs.declared.run.End.{End as Told}

@@ -9,7 +9,7 @@ use Rattle.vfork_exec.specs.Procs.{Lives}
 use Rattle.mmap_rules.specs.Space.{writable_in}
 use Rattle.machine_world.specs.Event.{put_got}
 use Rattle.file_calls.specs.Calls.{got_of}
-use Rattle.physical_turns.specs.Physical.{has_stray}
+use Rattle.memory_world.specs.Physical.{has_stray}
 use Rattle.kept_parts.specs.Kept.{Kept}
 use Rattle.kept_parts.specs.Inside.{kept_of}
 use Rattle.call_bytes.specs.Puts.{stray_range}

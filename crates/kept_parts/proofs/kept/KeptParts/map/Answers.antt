@@ -14,7 +14,7 @@ use Rattle.vfork_exec.specs.declared.entry.Entry.{Entry}
 use Rattle.vfork_exec.specs.Procs.{Lives}
 use Rattle.machine_world.specs.MapCalls.{mapped}
 use Rattle.machine_world.specs.Event.{answered}
-use Rattle.physical_turns.specs.Physical.{Physical, after, carried}
+use Rattle.memory_world.specs.Physical.{Physical, after, carried}
 use Rattle.kept_parts.specs.declared.task.Task.{Task}
 use Rattle.kept_parts.specs.Kept.{Kept}
 use Rattle.kept_parts.specs.Inside.{kept_of}

@@ -1,7 +1,7 @@
 -- What the event gives behind the note. Out of memory the note stands, and is taken back.
 use Rattle.std.proofs.Common.{◌≡◌, refl, sym, ap, subst, rules, ◌∙◌}
 use Rattle.std.specs.Result.{IsErr}
-use Rattle.physical_turns.specs.Physical.{has_stray}
+use Rattle.memory_world.specs.Physical.{has_stray}
 use Rattle.kept_parts.specs.InMemory.{without_newest}
 use Rattle.kept_parts.specs.Kept.{Kept}
 use Rattle.kept_parts.specs.Regular.{IsRegular}

@@ -1,6 +1,6 @@
 -- Where no stray access is marked as noted, the notes have none.
 use Rattle.std.proofs.Common.{rules, ◌≡◌, false, sym, ◌∙◌}
-use Rattle.physical_turns.specs.Physical.{has_stray}
+use Rattle.memory_world.specs.Physical.{has_stray}
 use Rattle.syscall_layer.proofs.Halted.{none_noted}
 use Rattle.syscall_layer.proofs.parts.Parts.halted_at.Goals as goal
 

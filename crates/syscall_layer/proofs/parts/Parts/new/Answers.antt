@@ -1,6 +1,6 @@
 -- No pipe is marked once those went on that wait on one that changed.
 use Rattle.std.proofs.Common.{◌≡◌, ap, ◌∙◌}
-use Rattle.physical_turns.specs.Physical.{has_stray}
+use Rattle.memory_world.specs.Physical.{has_stray}
 use Rattle.kept_parts.specs.Kept.{Kept}
 use Rattle.syscall_layer.proofs.parts.Parts.new.Goals as goal
 

@@ -1,6 +1,0 @@
--- ENOMEM is for want of a run.
-use Rattle.memory_refusals.proofs.Enomem.{enomem_is_exact_in}
-use Rattle.memory_refusals.proofs.laws.enomem_in_memory_law.Goals as goal
-
-pub returns : goal.returns
-returns c = enomem_is_exact_in
