@@ -14,7 +14,7 @@ use Rattle.call_log.specs.declared.note.Got.{Got}
 use Rattle.call_log.specs.Values.{got_value}
 use Rattle.call_log.specs.Notes.{GotRange}
 use Rattle.call_log.specs.Sent.{Span}
-use Rattle.mmap_rules.specs.declared.owners.PageOwner.{PageOwner}
+use Rattle.mmap_rules.specs.declared.page_owner.PageOwner.{PageOwner}
 use Rattle.mmap_rules.specs.declared.mapping.Mapping.{Mapping}
 use Rattle.mmap_rules.specs.Space.{in_range, own_in, writable_in, may_use}
 use Rattle.mmap_rules.specs.Owners.{owns}

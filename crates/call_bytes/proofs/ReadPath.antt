@@ -4,7 +4,7 @@ use Rattle.std.proofs.lemmas.List.{append-nil}
 use Rattle.std.specs.Prelude.{Result, Ok, Err, slice_index}
 use Rattle.byte_words.specs.ByteMap.{Bytes}
 use Rattle.vfork_exec.proofs.Keyed.{eqb_other}
-use Rattle.mmap_rules.specs.declared.owners.PageOwner.{PageOwner}
+use Rattle.mmap_rules.specs.declared.page_owner.PageOwner.{PageOwner}
 use Rattle.mmap_rules.specs.Space.{may_use}
 use Rattle.mmap_rules.specs.Owners.{owns}
 use Rattle.region_watch.specs.Private.{only, physical}

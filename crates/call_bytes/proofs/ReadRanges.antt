@@ -6,7 +6,7 @@ use Rattle.std.proofs.lemmas.Bool.{le-ltb}
 use Rattle.std.proofs.lemmas.Bool.Decides.{nat_tests}
 use Rattle.byte_words.specs.ByteMap.{Bytes, byte_of}
 use Rattle.byte_words.proofs.ByteArrays.{byte_at}
-use Rattle.mmap_rules.specs.declared.owners.PageOwner.{PageOwner}
+use Rattle.mmap_rules.specs.declared.page_owner.PageOwner.{PageOwner}
 use Rattle.mmap_rules.specs.Space.{all_pass, may_use}
 use Rattle.mmap_rules.specs.Owners.{owns}
 use Rattle.region_watch.specs.Private.{only, physical}

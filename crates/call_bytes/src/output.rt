@@ -2,7 +2,7 @@
 
 ghost use Rattle.std.specs.Prelude.{◌≡◌, ℕ, ◌*◌, ◌^◌, ◌-◌, All, None, Some, true, List, length, map, min, option_map, Ok};
 ghost use Rattle.call_log.specs.Values.{got_value};
-ghost use Rattle.mmap_rules.specs.declared.owners.PageOwner.{PageOwner};
+ghost use Rattle.mmap_rules.specs.declared.page_owner.PageOwner.{PageOwner};
 ghost use Rattle.mmap_rules.specs.Owners.{owns};
 ghost use Rattle.region_watch.specs.Private.{in_pages, physical};
 ghost use Rattle.flat_loader.specs.Alone.{put_got};

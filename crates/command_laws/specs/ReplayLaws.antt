@@ -13,8 +13,8 @@ use Rattle.replay_check.specs.declared.verdict.Verdict.{Verdict}
 use Rattle.replay_check.specs.declared.verdict.Verdict.TheVariants.{Yes, No}
 use Rattle.replay_check.specs.Replays.{OriginalFile, elf_file, flat_file, replayed, JudgesRun}
 use Rattle.file_commands.specs.declared.status.Status.TheVariants.{Done, Refused, Memory, Refuted}
-use Rattle.file_commands.specs.declared.arguments.Format.{Format}
-use Rattle.file_commands.specs.declared.arguments.Format.TheVariants as format
+use Rattle.file_commands.specs.declared.command.Format.{Format}
+use Rattle.file_commands.specs.declared.command.Format.TheVariants as format
 use Rattle.file_commands.specs.Texts.{too_long_tail, refused_line}
 use Rattle.file_commands.specs.Texts.Listing.{flat_tail}
 use Rattle.file_commands.specs.Texts.Replays.{items_tail, replay_tail}

@@ -11,7 +11,7 @@ use Rattle.rv32im_step.specs.declared.stop.Stop.TheVariants.{Next, Call, Trap, R
 use Rattle.rv32im_step.specs.Meaning.{effect, meaning}
 use Rattle.rv32im_step.specs.Memory.{fetch_of, store_of, loaded, stored}
 use Rattle.rv32im_step.specs.Registers.{register, with_register}
-use Rattle.mmap_rules.specs.declared.owners.PageOwner.{PageOwner}
+use Rattle.mmap_rules.specs.declared.page_owner.PageOwner.{PageOwner}
 use Rattle.mmap_rules.specs.Owners.{owns, owns_at}
 use Rattle.region_watch.specs.declared.mode.Mode.{Mode}
 use Rattle.region_watch.specs.declared.mode.Mode.TheVariants.{Halt, GoOn}

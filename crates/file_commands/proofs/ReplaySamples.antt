@@ -3,7 +3,7 @@ use Rattle.std.proofs.Common.{◌≡◌, ℕ, zero, suc, List, [], ◌∷◌, So
 use Rattle.std.specs.Prelude.{codes}
 use Rattle.std.specs.Fmt.{digits}
 use Rattle.replay_check.specs.declared.fault.ReplayFault.TheVariants as fault
-use Rattle.file_commands.specs.declared.arguments.Format.TheVariants.{Elf, Flat}
+use Rattle.file_commands.specs.declared.command.Format.TheVariants.{Elf, Flat}
 use Rattle.file_commands.specs.declared.status.Status.TheVariants.{HostRead}
 use Rattle.file_commands.specs.Ending.{early_ending}
 use Rattle.file_commands.specs.Outcome.{load, Inputs}

@@ -17,8 +17,8 @@ use Rattle.replay_check.specs.declared.verdict.Verdict.TheVariants.{Yes, No}
 use Rattle.replay_check.specs.declared.fault.ReplayFault.TheVariants as why
 use Rattle.replay_check.specs.Replays.{elf_file, flat_file, replayed, Replays}
 use Rattle.file_commands.specs.declared.status.Status.TheVariants as status
-use Rattle.file_commands.specs.declared.arguments.Format.{Format}
-use Rattle.file_commands.specs.declared.arguments.Format.TheVariants as format
+use Rattle.file_commands.specs.declared.command.Format.{Format}
+use Rattle.file_commands.specs.declared.command.Format.TheVariants as format
 use Rattle.file_commands.specs.Texts.Replays.{yes_line, replay_tail}
 use Rattle.file_commands.specs.Ending.{Ending, done_ending, refused_ending, memory_ending, OrMemory}
 use Rattle.file_commands.specs.Load.{at_once}

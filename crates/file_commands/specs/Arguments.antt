@@ -9,11 +9,11 @@ use Rattle.region_watch.specs.declared.mode.Mode.{Mode}
 use Rattle.region_watch.specs.declared.mode.Mode.TheVariants.{Halt, GoOn}
 use Rattle.watch_points.specs.declared.point.PointKind.{PointKind}
 use Rattle.watch_points.specs.declared.point.PointKind.TheVariants.{Touch, Within}
-use Rattle.file_commands.specs.declared.arguments.Format.{Format}
-use Rattle.file_commands.specs.declared.arguments.Format.TheVariants as format
-use Rattle.file_commands.specs.declared.arguments.KeptItems.{KeptItems as KeptArguments}
-use Rattle.file_commands.specs.declared.arguments.Command.{Command}
-use Rattle.file_commands.specs.declared.arguments.Command.TheVariants as command
+use Rattle.file_commands.specs.declared.command.Format.{Format}
+use Rattle.file_commands.specs.declared.command.Format.TheVariants as format
+use Rattle.file_commands.specs.declared.command.KeptItems.{KeptItems as KeptArguments}
+use Rattle.file_commands.specs.declared.command.Command.{Command}
+use Rattle.file_commands.specs.declared.command.Command.TheVariants as command
 
 -- the number of the load note, from 1, whose space's items a run keeps, and the file that takes them
 pub record KeptItems : Type 0 where

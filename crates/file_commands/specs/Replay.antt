@@ -9,8 +9,8 @@ use Rattle.replay_check.specs.declared.fault.ReplayFault.{ReplayFault}
 use Rattle.replay_check.specs.declared.verdict.Verdict.{Verdict}
 use Rattle.replay_check.specs.declared.verdict.Verdict.TheVariants.{Yes, No}
 use Rattle.replay_check.specs.Replays.{elf_file, flat_file, replayed}
-use Rattle.file_commands.specs.declared.arguments.Format.{Format}
-use Rattle.file_commands.specs.declared.arguments.Format.TheVariants as format
+use Rattle.file_commands.specs.declared.command.Format.{Format}
+use Rattle.file_commands.specs.declared.command.Format.TheVariants as format
 use Rattle.file_commands.specs.Texts.Listing.{flat_tail}
 use Rattle.file_commands.specs.Texts.Replays.{yes_line, no_line, items_tail, replay_tail}
 use Rattle.file_commands.specs.Ending.{Ending, done_ending, refuted_ending, refused_ending}

@@ -8,6 +8,7 @@
 mod answer;
 mod arguments;
 mod check;
+mod command;
 mod convert;
 mod delivery;
 mod ended;
@@ -23,8 +24,9 @@ pub mod texts;
 mod unromfs;
 
 pub use answer::Answer;
-pub use arguments::{Command, DEFAULT_STACK, Format, KeptItems, read_arguments};
+pub use arguments::{DEFAULT_STACK, read_arguments};
 pub use check::check_file;
+pub use command::{Command, Format, KeptItems};
 pub use convert::convert_file;
 pub use delivery::deliver;
 pub use ended::{Ended, settled};

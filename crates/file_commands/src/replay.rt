@@ -12,7 +12,7 @@ ghost use Rattle.file_commands.specs.Replay.{verdict_ending, replayed_ending, fl
 ghost use Rattle.file_commands.specs.HostCourse.{PerformsCommand};
 
 use crate::answer::Answer;
-use crate::arguments::Format;
+use crate::command::Format;
 use crate::file_load::{load_file, load_limited};
 use crate::status::Status;
 use crate::texts::listing::refused_flat;

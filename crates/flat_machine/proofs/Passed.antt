@@ -3,7 +3,7 @@ use Rattle.std.proofs.Common.{◌≡◌, ℕ, Bool, true, false, not, List, refl
 use Rattle.std.proofs.lemmas.List.{length-replicate}
 use Rattle.rv32im_step.specs.declared.regs.Regs.{Regs}
 use Rattle.rv32im_step.specs.declared.stop.Stop.{Stop}
-use Rattle.mmap_rules.specs.declared.owners.PageOwner.{PageOwner}
+use Rattle.mmap_rules.specs.declared.page_owner.PageOwner.{PageOwner}
 use Rattle.mmap_rules.specs.Held.{Held}
 use Rattle.mmap_rules.specs.Owners.{owns}
 use Rattle.region_watch.specs.declared.mode.Mode.{Mode}

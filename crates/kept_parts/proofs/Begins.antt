@@ -7,7 +7,7 @@ use Rattle.std.proofs.lemmas.Bool.Decides.{nat_tests}
 use Rattle.nommu_regions.specs.declared.region.Region.{Region}
 use Rattle.nommu_regions.specs.declared.region.Source.TheVariants.{Own}
 use Rattle.nommu_regions.specs.Regions.{holds, AreRegions}
-use Rattle.mmap_rules.specs.declared.owners.PageOwner.{PageOwner}
+use Rattle.mmap_rules.specs.declared.page_owner.PageOwner.{PageOwner}
 use Rattle.vfork_exec.specs.Keyed.{find}
 use Rattle.call_log.specs.Notes.{Note}
 use Rattle.mem_files.specs.Inodes.{Inodes}

@@ -11,8 +11,8 @@ use Rattle.call_log.specs.Flags.{has_flag}
 use Rattle.call_log.specs.Sent.{cons_byte, bytes_from}
 use Rattle.page_runs.specs.declared.place.Kind.{Kind}
 use Rattle.mem_files.specs.Inodes.{Inodes, bytes_of}
-use Rattle.mmap_rules.specs.declared.maps.MapFault.{MapFault}
-use Rattle.mmap_rules.specs.declared.maps.MapFault.TheVariants as fault
+use Rattle.mmap_rules.specs.declared.map_fault.MapFault.{MapFault}
+use Rattle.mmap_rules.specs.declared.map_fault.MapFault.TheVariants as fault
 use Rattle.mmap_rules.specs.declared.want.Want.{Want}
 use Rattle.mmap_rules.specs.declared.want.Want.TheVariants.{Anon, File}
 use Rattle.mmap_rules.specs.Want.{pages_for, map_anonymous}

@@ -18,8 +18,8 @@ use Rattle.nommu_regions.proofs.Copies.{copy_lives, copy_covers_them}
 use Rattle.mmap_rules.specs.declared.mapping.Mapping.{Mapping}
 use Rattle.mmap_rules.specs.declared.want.Want.{Want}
 use Rattle.mmap_rules.specs.declared.want.Want.TheVariants.{Anon, File}
-use Rattle.mmap_rules.specs.declared.maps.MapFault.{MapFault}
-use Rattle.mmap_rules.specs.declared.maps.MapFault.TheVariants as fault
+use Rattle.mmap_rules.specs.declared.map_fault.MapFault.{MapFault}
+use Rattle.mmap_rules.specs.declared.map_fault.MapFault.TheVariants as fault
 use Rattle.mmap_rules.specs.Want.{AsksPages}
 use Rattle.mmap_rules.specs.Copies.{IsKnown, wanted_bytes}
 use Rattle.mmap_rules.specs.Space.{Space, memory_base, own_in}

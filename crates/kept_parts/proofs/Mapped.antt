@@ -7,8 +7,8 @@ use Rattle.call_log.specs.Errno.{refusal}
 use Rattle.call_log.specs.Notes.{Note}
 use Rattle.nommu_regions.specs.declared.region.Region.{Region}
 use Rattle.mmap_rules.specs.declared.want.Want.{Want}
-use Rattle.mmap_rules.specs.declared.maps.MapFault.{MapFault}
-use Rattle.mmap_rules.specs.declared.maps.MapFault.TheVariants as fault
+use Rattle.mmap_rules.specs.declared.map_fault.MapFault.{MapFault}
+use Rattle.mmap_rules.specs.declared.map_fault.MapFault.TheVariants as fault
 use Rattle.mmap_rules.specs.Want.{AsksPages}
 use Rattle.mmap_rules.specs.Space.{Space}
 use Rattle.mmap_rules.specs.Held.{Held}

@@ -12,8 +12,8 @@ use Rattle.mmap_rules.specs.Want.{pages_for, map_anonymous}
 use Rattle.call_log.specs.Flags.{has_flag}
 use Rattle.call_log.specs.Numbers as numbers
 use Rattle.file_calls.specs.declared.call.Call.{Call}
-use Rattle.mmap_rules.specs.declared.maps.MapFault.{MapFault}
-use Rattle.mmap_rules.specs.declared.maps.MapFault.TheVariants.{Enomem, Memory}
+use Rattle.mmap_rules.specs.declared.map_fault.MapFault.{MapFault}
+use Rattle.mmap_rules.specs.declared.map_fault.MapFault.TheVariants.{Enomem, Memory}
 use Rattle.mmap_rules.specs.Held.{Held, AreMappings}
 use Rattle.mmap_rules.specs.MapState.{map_state, mapped, Maps, freed, unmapped, Unmaps}
 

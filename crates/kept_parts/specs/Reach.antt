@@ -1,6 +1,6 @@
 -- What a system call may read and write: its process's own bytes, or all of memory.
 use Rattle.std.specs.Prelude.{◌≡◌, ℕ, Bool, true, false, List, length, replicate}
-use Rattle.mmap_rules.specs.declared.owners.PageOwner.{PageOwner}
+use Rattle.mmap_rules.specs.declared.page_owner.PageOwner.{PageOwner}
 use Rattle.mmap_rules.specs.Space.{own_in, writable_in}
 use Rattle.mmap_rules.specs.Owners.{owns}
 use Rattle.mmap_rules.specs.Held.{Held}

@@ -12,7 +12,7 @@ use Rattle.nommu_regions.specs.Regions.{copy_of, copy_covers, covers, is_copy}
 use Rattle.nommu_regions.specs.Ids.{Numbered, start_of}
 use Rattle.mmap_rules.specs.declared.want.Want.{Want}
 use Rattle.mmap_rules.specs.declared.want.Want.TheVariants.{Anon, File}
-use Rattle.mmap_rules.specs.declared.maps.Part.{Part}
+use Rattle.mmap_rules.specs.declared.pages.Part.{Part}
 use Rattle.mmap_rules.specs.Mappings.{copied_from, filled, file_pages, CopyHas}
 use Rattle.mmap_rules.specs.Chosen.{part_at, part_for, new_run, bytes_copied}
 use Rattle.mmap_rules.specs.MapState.{MapState, in_fresh_run, in_copy, in_copy_or_new, mapped}

@@ -8,7 +8,7 @@ use Rattle.nommu_regions.specs.declared.region.Region.{Region}
 use Rattle.nommu_regions.specs.Regions.{holds, is_copy, AreRegions}
 use Rattle.mmap_rules.specs.declared.mapping.Range.{Range}
 use Rattle.mmap_rules.specs.declared.mapping.Mapping.{Mapping}
-use Rattle.mmap_rules.specs.declared.owners.PageOwner.{PageOwner}
+use Rattle.mmap_rules.specs.declared.page_owner.PageOwner.{PageOwner}
 use Rattle.mmap_rules.specs.Owners.{IsTable, Says, distance, meets}
 use Rattle.mmap_rules.specs.Held.{IsMapping, AreMappings}
 use Rattle.mmap_rules.specs.Mappings.{part_mapping, copied_from, CopyHas, CanAdd}

@@ -11,7 +11,7 @@ use Rattle.nommu_regions.specs.Regions.{free_of, copy_of}
 use Rattle.nommu_regions.specs.Ids.{Numbered, Lives, start_of}
 use Rattle.mmap_rules.specs.declared.want.Want.{Want}
 use Rattle.mmap_rules.specs.declared.want.Want.TheVariants.{Anon, File}
-use Rattle.mmap_rules.specs.declared.maps.Part.{Part}
+use Rattle.mmap_rules.specs.declared.pages.Part.{Part}
 use Rattle.mmap_rules.specs.Chosen.{part_at, part_for, new_run}
 use Rattle.mmap_rules.specs.Held.{Held}
 use Rattle.mmap_rules.specs.MapState.{MapState, map_state, in_fresh_run, in_copy, in_copy_or_new, mapped}

@@ -8,7 +8,7 @@ use Rattle.nommu_regions.specs.declared.region.Source.{Source}
 use Rattle.nommu_regions.specs.Regions.{is_held, AreRegions, AreFree}
 use Rattle.nommu_regions.proofs.Held.{held_by}
 use Rattle.mmap_rules.specs.declared.mapping.Mapping.{Mapping}
-use Rattle.mmap_rules.specs.declared.owners.PageOwner.{PageOwner}
+use Rattle.mmap_rules.specs.declared.page_owner.PageOwner.{PageOwner}
 use Rattle.mmap_rules.specs.Owners.{IsTable, meets}
 use Rattle.mmap_rules.specs.Held.{AreMappings}
 use Rattle.mmap_rules.specs.Mappings.{run_mapping, IsNewRun, CanAdd}

@@ -7,8 +7,8 @@ use Rattle.nommu_regions.specs.declared.region.Region.{Region}
 use Rattle.nommu_regions.specs.Regions.{AreRegions}
 use Rattle.nommu_regions.proofs.Held.{after_set}
 use Rattle.mmap_rules.specs.declared.mapping.Mapping.{Mapping}
-use Rattle.mmap_rules.specs.declared.maps.MapFault.{MapFault}
-use Rattle.mmap_rules.specs.declared.maps.MapFault.TheVariants.{Enomem, Memory}
+use Rattle.mmap_rules.specs.declared.map_fault.MapFault.{MapFault}
+use Rattle.mmap_rules.specs.declared.map_fault.MapFault.TheVariants.{Enomem, Memory}
 use Rattle.mmap_rules.specs.declared.want.Want.{Want}
 use Rattle.mmap_rules.specs.Want.{AsksPages}
 use Rattle.mmap_rules.specs.MapState.{MapState, Mapped, Maps, NameRegions, AreAtMost, mapped}

@@ -4,7 +4,7 @@ use Rattle.std.specs.Prelude.{slice_get, option_map, nat_le, nat_lt}
 use Rattle.std.proofs.lemmas.Bool.Decides.{nat_tests}
 use Rattle.mmap_rules.specs.declared.mapping.Range.{Range}
 use Rattle.mmap_rules.specs.declared.mapping.Mapping.{Mapping}
-use Rattle.mmap_rules.specs.declared.owners.PageOwner.{PageOwner}
+use Rattle.mmap_rules.specs.declared.page_owner.PageOwner.{PageOwner}
 use Rattle.mmap_rules.specs.Owners.{IsTable, Says, meets, taken_out}
 use Rattle.mmap_rules.specs.Held.{page_address}
 use Rattle.mmap_rules.specs.Mappings.{left_of}

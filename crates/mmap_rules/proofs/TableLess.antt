@@ -6,7 +6,7 @@ use Rattle.std.proofs.lemmas.Bool.{cases_Bool, cases_lt, le-leb, lt-leb}
 use Rattle.std.proofs.lemmas.Option.{none-some}
 use Rattle.mmap_rules.specs.declared.mapping.Range.{Range}
 use Rattle.mmap_rules.specs.declared.mapping.Mapping.{Mapping}
-use Rattle.mmap_rules.specs.declared.owners.PageOwner.{PageOwner}
+use Rattle.mmap_rules.specs.declared.page_owner.PageOwner.{PageOwner}
 use Rattle.mmap_rules.specs.Owners.{IsTable, Says, meets, taken_out, free_page}
 use Rattle.mmap_rules.proofs.Lists.{each_cut, counted_found, sum_cut}
 use Rattle.mmap_rules.proofs.TableMore.{Was, was}

@@ -7,8 +7,8 @@ use Rattle.nommu_regions.specs.Regions.{copy_of}
 use Rattle.nommu_regions.specs.Ids.{Numbered, start_of}
 use Rattle.mmap_rules.specs.declared.want.Want.{Want}
 use Rattle.mmap_rules.specs.declared.want.Want.TheVariants.{Anon, File}
-use Rattle.mmap_rules.specs.declared.maps.NewRun.{NewRun}
-use Rattle.mmap_rules.specs.declared.maps.Part.{Part}
+use Rattle.mmap_rules.specs.declared.pages.NewRun.{NewRun}
+use Rattle.mmap_rules.specs.declared.pages.Part.{Part}
 use Rattle.mmap_rules.specs.Space.{page_size}
 
 -- a part with the first page of its copy in the place of the id

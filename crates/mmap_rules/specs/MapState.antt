@@ -13,8 +13,8 @@ use Rattle.call_log.specs.declared.errno.Errno.TheVariants.{Einval}
 use Rattle.mmap_rules.specs.declared.mapping.Mapping.{Mapping}
 use Rattle.mmap_rules.specs.declared.want.Want.{Want}
 use Rattle.mmap_rules.specs.declared.want.Want.TheVariants.{Anon, File}
-use Rattle.mmap_rules.specs.declared.maps.MapFault.{MapFault}
-use Rattle.mmap_rules.specs.declared.maps.MapFault.TheVariants.{Enomem, Memory}
+use Rattle.mmap_rules.specs.declared.map_fault.MapFault.{MapFault}
+use Rattle.mmap_rules.specs.declared.map_fault.MapFault.TheVariants.{Enomem, Memory}
 use Rattle.mmap_rules.specs.Space.{page_size}
 use Rattle.mmap_rules.specs.Held.{Held, page_address}
 use Rattle.mmap_rules.specs.Want.{pages_for}

@@ -6,7 +6,7 @@ use Rattle.nommu_regions.specs.declared.region.Source.{Source}
 use Rattle.nommu_regions.specs.declared.region.Source.TheVariants.{Own, Copy}
 use Rattle.nommu_regions.specs.Regions.{is_copy}
 use Rattle.mmap_rules.specs.declared.mapping.Mapping.{Mapping}
-use Rattle.mmap_rules.specs.declared.owners.PageOwner.{PageOwner}
+use Rattle.mmap_rules.specs.declared.page_owner.PageOwner.{PageOwner}
 use Rattle.mmap_rules.specs.Space.{memory_base, page_size}
 use Rattle.mmap_rules.specs.Owners.{meets, Says}
 use Rattle.mmap_rules.specs.Held.{page_address, IsMapping}

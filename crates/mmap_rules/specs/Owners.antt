@@ -4,7 +4,7 @@ use Rattle.std.specs.Coded.{Coded, code_by, coded×, coded_ℕ, coded_bool, code
 use Rattle.std.proofs.Common.{refl}
 use Rattle.mmap_rules.specs.declared.mapping.Range.{Range}
 use Rattle.mmap_rules.specs.declared.mapping.Mapping.{Mapping}
-use Rattle.mmap_rules.specs.declared.owners.PageOwner.{PageOwner}
+use Rattle.mmap_rules.specs.declared.page_owner.PageOwner.{PageOwner}
 use Rattle.mmap_rules.specs.Space.{memory_base, page_size}
 
 abbrev pub coded_owner : Coded PageOwner

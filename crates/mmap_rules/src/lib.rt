@@ -5,17 +5,22 @@
 //! memory, instructions, and the other processes.
 #![tactic(auto)]
 
+mod map_fault;
 mod mapping;
 mod maps;
 mod owners;
+mod page_owner;
+mod pages;
 mod space;
 mod steps;
 mod unmaps;
 mod want;
 
+pub use map_fault::MapFault;
 pub use mapping::{Mapping, Range};
-pub use maps::{MapFault, fits};
-pub use owners::{Owners, PageOwner};
+pub use maps::fits;
+pub use owners::Owners;
+pub use page_owner::PageOwner;
 pub use space::{Space, SpaceRoom};
 pub use steps::Steps;
 pub use want::{FileSide, Want, check_mmap2, pages_for};

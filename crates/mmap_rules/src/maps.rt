@@ -8,7 +8,7 @@ ghost use Rattle.mem_files.specs.Inodes.{bytes_of};
 ghost use Rattle.nommu_regions.specs.declared.region.Source.TheVariants.{Own};
 ghost use Rattle.nommu_regions.specs.Regions.{AreRegions, free_of};
 ghost use Rattle.nommu_regions.specs.Ids.{Lives, region_of, start_of};
-ghost use Rattle.mmap_rules.specs.declared.maps.MapFault.TheVariants.{Enomem};
+ghost use Rattle.mmap_rules.specs.declared.map_fault.MapFault.TheVariants.{Enomem};
 ghost use Rattle.mmap_rules.specs.Owners.{IsTable};
 ghost use Rattle.mmap_rules.specs.Held.{AreMappings, places_of};
 ghost use Rattle.page_runs.specs.declared.place.Kind.{Kind};
@@ -18,8 +18,10 @@ ghost use Rattle.mmap_rules.specs.Mappings.{run_mapping, part_mapping, copied_fr
 ghost use Rattle.mmap_rules.specs.Chosen.{part_at, part_for, new_run, bytes_copied, file_source};
 ghost use Rattle.mmap_rules.specs.MapState.{MapState, map_state, mapped, in_fresh_run, in_copy, file_in, Maps, NameRegions, AreFew};
 
+use crate::map_fault::MapFault;
 use crate::mapping::{Mapping, Range};
 use crate::owners::Owners;
+use crate::pages::{NewRun, Part};
 use crate::space::Space;
 use crate::want::Want;
 use mem_files::Tree;
@@ -27,43 +29,6 @@ use nommu_regions::{Region, Regions, Source};
 use page_runs::{Chooser, Run};
 use phys_mem::{BASE, PAGE, PhysMem};
 use std::alloc::AllocError;
-
-/// Why nothing is mapped.
-#[derive(Clone, Copy, PartialEq, Eq)]
-pub enum MapFault {
-    /// A fresh run of pages is needed, and no free run has so many.
-    Enomem,
-    /// Out of host memory.
-    Memory,
-}
-
-impl From<AllocError> for MapFault {
-    ghost use Rattle.std.specs.Prelude.{◌≡◌};
-    ghost use Rattle.mmap_rules.specs.declared.maps.MapFault.TheVariants.{Memory};
-
-    ghost from_gives = { λ _ e. e ≡ Memory };
-
-    fn from(_error: AllocError) -> MapFault {
-        MapFault::Memory
-    }
-}
-
-/// A run of pages that is wanted.
-#[derive(Clone, Copy)]
-struct NewRun {
-    pages: u32,
-    writes: bool,
-    anonymous: bool,
-    source: Source,
-}
-
-/// Pages of the copy of this id, from the file's page `first` on.
-#[derive(Clone, Copy)]
-struct Part {
-    copy: u32,
-    first: u32,
-    pages: u32,
-}
 
 /// The pages of a copy that can be shared, if there are any.
 fn part_for(regions: &Regions, want: Want) -> Option<Part>

@@ -1,10 +1,11 @@
 //! Which bytes of memory are a space's own, page by page.
 ghost use Rattle.std.specs.Prelude.{◌≡◌, ◌+◌, ◌*◌, ◌-◌, ◌^◌, ◌<◌, ◌≤◌, ◌⊎◌, ℕ, length, slice_get, replicate, option_map, IfOk, Some};
-ghost use Rattle.mmap_rules.specs.declared.owners.PageOwner.{PageOwner};
+ghost use Rattle.mmap_rules.specs.declared.page_owner.PageOwner.{PageOwner};
 ghost use Rattle.mmap_rules.specs.Space.{may_use};
 ghost use Rattle.mmap_rules.specs.Owners.{owns, owns_at, free_page, touched, IsShaped, entered, taken_out};
 
 use crate::mapping::Range;
+use crate::page_owner::PageOwner;
 use crate::steps::Steps;
 use phys_mem::BASE;
 use std::alloc::{AllocError, Global};
@@ -14,17 +15,6 @@ use std::sync::ledger::{Blank, Ledger};
 /// The bytes of a page.
 const PAGE: u64 = phys_mem::PAGE as u64;
 
-/// What a space owns of one page.
-#[derive(Clone, Copy, PartialEq, Eq)]
-pub struct PageOwner {
-    /// The first of the page's bytes that is own, if any is; all behind it are.
-    pub from: u32,
-    /// They may be written.
-    pub write: bool,
-    /// How many of the space's mappings have own bytes there.
-    pub uses: u32,
-}
-
 /// A table with an entry for each page of memory.
 #[derive(Drop)]
 pub struct Owners {
@@ -33,7 +23,7 @@ pub struct Owners {
 
 impl Model for Owners {
     ghost use Rattle.std.specs.Prelude.{List, ◌≤◌, length};
-    ghost use Rattle.mmap_rules.specs.declared.owners.PageOwner.{PageOwner};
+    ghost use Rattle.mmap_rules.specs.declared.page_owner.PageOwner.{PageOwner};
     ghost use Rattle.mmap_rules.specs.Owners.{coded_table};
 
     ghost Value = { List PageOwner };

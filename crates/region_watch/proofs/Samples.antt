@@ -10,7 +10,7 @@ use Rattle.rv32im_step.specs.Asked.{Asked, effect_asked, asked}
 use Rattle.rv32im_step.specs.Meaning.{effect, meaning}
 use Rattle.rv32im_step.specs.Memory.{fetch_of, load_of, store_of, loaded, stored}
 use Rattle.rv32im_step.specs.Registers.{register, with_register}
-use Rattle.mmap_rules.specs.declared.owners.PageOwner.{PageOwner}
+use Rattle.mmap_rules.specs.declared.page_owner.PageOwner.{PageOwner}
 use Rattle.mmap_rules.specs.Space.{may_use}
 use Rattle.mmap_rules.specs.Owners.{owns, owns_at}
 use Rattle.region_watch.specs.declared.mode.Mode.{Mode}

@@ -15,7 +15,7 @@ use Rattle.rv32im_step.specs.Word.{wrap, signed}
 use Rattle.rv32im_step.specs.Meaning.{Meaning, next, call, trap, refused, misaligned, goes, jumps, branches, sets_loaded, loads, stores, same, even, changes, row, effect, decoded_effect, fetched_effect, meaning, Means}
 use Rattle.byte_words.specs.ByteMap.{Bytes, little_bytes, with_bytes}
 use Rattle.rv32im_step.specs.Memory.{fetch_of, load_of, store_of, or_refused, reading, loaded, all_writable, stored}
-use Rattle.mmap_rules.specs.declared.owners.PageOwner.{PageOwner}
+use Rattle.mmap_rules.specs.declared.page_owner.PageOwner.{PageOwner}
 use Rattle.mmap_rules.specs.Space.{may_use}
 use Rattle.mmap_rules.specs.Owners.{owns}
 use Rattle.region_watch.specs.declared.mode.Mode.{Mode}

@@ -1,6 +1,6 @@
 -- Laws of programs in one memory.
 use Rattle.std.specs.Prelude.{◌≡◌, ℕ, ◌*◌, true, false, List, length}
-use Rattle.mmap_rules.specs.declared.owners.PageOwner.{PageOwner}
+use Rattle.mmap_rules.specs.declared.page_owner.PageOwner.{PageOwner}
 use Rattle.mmap_rules.specs.Space.{page_size}
 use Rattle.mmap_rules.specs.Owners.{owns}
 use Rattle.region_watch.specs.declared.mode.Mode.TheVariants.{GoOn}

@@ -2,7 +2,7 @@
 -- without an MMU all programs stand in the one physical memory, at its addresses.
 use Rattle.std.specs.Prelude.{ℕ, ◌+◌, ◌*◌, Bool, true, false, not, ◌&&◌, nat_le, nat_lt, if◌then◌else◌, List, length, None}
 use Rattle.byte_words.specs.ByteMap.{Bytes, byte_of}
-use Rattle.mmap_rules.specs.declared.owners.PageOwner.{PageOwner}
+use Rattle.mmap_rules.specs.declared.page_owner.PageOwner.{PageOwner}
 use Rattle.mmap_rules.specs.Space.{memory_base, page_size}
 use Rattle.mmap_rules.specs.Owners.{owns}
 use Rattle.region_watch.specs.declared.mode.Mode.{Mode}

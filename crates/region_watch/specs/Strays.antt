@@ -8,7 +8,7 @@ use Rattle.rv32im_step.specs.declared.access.AccessKind.TheVariants.{Store, Call
 use Rattle.rv32im_step.specs.declared.stop.Stop.{Stop}
 use Rattle.rv32im_step.specs.declared.stop.Stop.TheVariants.{Refused}
 use Rattle.rv32im_step.specs.Asked.{Asked}
-use Rattle.mmap_rules.specs.declared.owners.PageOwner.{PageOwner}
+use Rattle.mmap_rules.specs.declared.page_owner.PageOwner.{PageOwner}
 use Rattle.mmap_rules.specs.Space.{may_use}
 use Rattle.mmap_rules.specs.Owners.{owns}
 

@@ -6,7 +6,7 @@ use Rattle.std.proofs.lemmas.List.{length-replicate}
 use Rattle.byte_words.specs.ByteMap.{byte_of}
 use Rattle.bflt_format.specs.Values.{Values}
 use Rattle.mmap_rules.specs.declared.mapping.Range.{Range}
-use Rattle.mmap_rules.specs.declared.owners.PageOwner.{PageOwner}
+use Rattle.mmap_rules.specs.declared.page_owner.PageOwner.{PageOwner}
 use Rattle.mmap_rules.specs.Space.{in_range}
 use Rattle.mmap_rules.specs.Owners.{IsShaped, free_page, entered}
 use Rattle.mmap_rules.proofs.Lists.{each_one}

@@ -14,7 +14,7 @@ use Rattle.byte_words.proofs.ByteArrays.{byte_of-laid}
 use Rattle.byte_words.proofs.Laid.{length-laid}
 use Rattle.mmap_rules.specs.declared.mapping.Range.{Range}
 use Rattle.mmap_rules.specs.declared.mapping.Mapping.{Mapping}
-use Rattle.mmap_rules.specs.declared.owners.PageOwner.{PageOwner}
+use Rattle.mmap_rules.specs.declared.page_owner.PageOwner.{PageOwner}
 use Rattle.mmap_rules.specs.Space.{in_range, may_use}
 use Rattle.mmap_rules.specs.Owners.{IsShaped, IsTable, Says, distance, meets, entered, owns_in, owns_at, owns}
 use Rattle.mmap_rules.proofs.Lists.{any_found, found_counted, each_append, each_one}

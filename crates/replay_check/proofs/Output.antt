@@ -5,7 +5,7 @@ use Rattle.std.proofs.lemmas.Bool.{cases_Bool}
 use Rattle.std.proofs.lemmas.Bool.Decides.{nat_tests}
 use Rattle.call_log.specs.Notes.{GotRange}
 use Rattle.mmap_rules.specs.declared.mapping.Range.{Range}
-use Rattle.mmap_rules.specs.declared.owners.PageOwner.{PageOwner}
+use Rattle.mmap_rules.specs.declared.page_owner.PageOwner.{PageOwner}
 use Rattle.mmap_rules.specs.Space.{may_use}
 use Rattle.mmap_rules.specs.Owners.{owns}
 use Rattle.region_watch.specs.Private.{only, physical, in_pages}

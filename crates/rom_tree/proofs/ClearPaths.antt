@@ -6,7 +6,7 @@ use Rattle.std.specs.List.{AllByRecursion, list_any, list_all, before_first, pre
 use Rattle.mem_files.specs.Paths.{slash}
 use Rattle.romfs_image.specs.declared.fault.RomFault.{RomFault}
 use Rattle.romfs_image.specs.declared.fault.RomFault.TheVariants as rom
-use Rattle.romfs_image.specs.declared.walk.Level.{Level}
+use Rattle.romfs_image.specs.declared.level.Level.{Level}
 use Rattle.romfs_image.specs.Header.{name_at, name_end, header_at}
 use Rattle.romfs_image.specs.Fault.{image_of, super_fault, is_node}
 use Rattle.romfs_image.specs.Walk.{Entry, levels_behind, entries_behind, unless, fault_at, walk, walked}

@@ -4,7 +4,7 @@ use Rattle.std.specs.Prelude.{codes, slice_index}
 use Rattle.std.specs.List.{All}
 use Rattle.std.proofs.lemmas.Bool.{ne_eqb}
 use Rattle.std.proofs.lemmas.List.Elements.{All-cons}
-use Rattle.romfs_image.specs.declared.making.Place.{Place}
+use Rattle.romfs_image.specs.declared.place.Place.{Place}
 use Rattle.romfs_image.specs.declared.node.RomKind.{RomKind}
 use Rattle.romfs_image.specs.declared.node.RomKind.TheVariants.{Dir, File}
 use Rattle.romfs_image.specs.Header.{Header, header_at}

@@ -3,7 +3,7 @@ use Rattle.std.proofs.Common.{inl, inr, ◌≡◌, ℕ, zero, suc, ◌+◌, ◌<
 use Rattle.std.specs.List.{list_any}
 use Rattle.std.proofs.lemmas.Bool.{eq-eqb, cases_Bool, both_ways, or_from}
 use Rattle.std.proofs.lemmas.List.Folds.{list_any_at, list_any-append}
-use Rattle.romfs_image.specs.declared.walk.Entry as code
+use Rattle.romfs_image.specs.declared.level.Entry as code
 use Rattle.romfs_image.specs.Walk.{Entry}
 use Rattle.romfs_image.specs.Reading.{is_file_at, is_dangling, FilesFit}
 use Rattle.romfs_image.specs.Code.{kind_number, entry_value, found}

@@ -2,7 +2,7 @@
 use Rattle.std.proofs.Common.{◌≡◌, ℕ, zero, suc, false, ◌+◌, ◌-◌, ◌<◌, ◌≤◌, ◌==◌, List, [], ◌∷◌, ◌++◌, length, map, take, drop, get_or, subst, add-one, refl, ap, ◌∙◌, arith, inl, inr}
 use Rattle.std.proofs.lemmas.Bool.{cases_Bool}
 use Rattle.std.proofs.lemmas.List.{length-map, take_all, drop_all}
-use Rattle.romfs_image.specs.declared.making.Place.{Place}
+use Rattle.romfs_image.specs.declared.place.Place.{Place}
 use Rattle.romfs_image.specs.declared.node.RomNode as code
 use Rattle.romfs_image.specs.declared.node.RomKind.TheVariants.{Dir}
 use Rattle.romfs_image.specs.Nodes.{RomValue}

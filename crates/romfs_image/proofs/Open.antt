@@ -3,7 +3,7 @@ use Rattle.std.proofs.Common.{◌≡◌, ℕ, ◌+◌, ◌<◌, ◌≤◌, Bool,
 use Rattle.std.specs.Prelude.{nat_lt, if◌then◌else◌}
 use Rattle.std.proofs.lemmas.Bool.{cases_Bool, eqb-true, eq-eqb, ne_eqb, and_parts}
 use Rattle.std.proofs.lemmas.List.{length_push}
-use Rattle.romfs_image.specs.declared.walk.Level.{Level}
+use Rattle.romfs_image.specs.declared.level.Level.{Level}
 use Rattle.romfs_image.specs.declared.node.RomKind.{RomKind}
 use Rattle.romfs_image.specs.declared.node.RomKind.TheVariants.{Dir, File}
 use Rattle.romfs_image.specs.Walk.{pending}

@@ -4,8 +4,8 @@ use Rattle.std.specs.Prelude.{None, codes, nat_lt, nat_le}
 use Rattle.std.specs.List.{list_any}
 use Rattle.std.proofs.lemmas.Bool.{le-ltb, eq-eqb, ne_eqb}
 use Rattle.std.proofs.lemmas.List.{length-append}
-use Rattle.romfs_image.specs.declared.walk.Level.{Level}
-use Rattle.romfs_image.specs.declared.making.Place.{Place}
+use Rattle.romfs_image.specs.declared.level.Level.{Level}
+use Rattle.romfs_image.specs.declared.place.Place.{Place}
 use Rattle.romfs_image.specs.declared.node.RomKind.{RomKind}
 use Rattle.romfs_image.specs.declared.node.RomKind.TheVariants.{Dir, File}
 use Rattle.romfs_image.specs.Header.{Header}

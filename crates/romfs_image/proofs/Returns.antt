@@ -5,8 +5,8 @@ use Rattle.std.specs.List.{list_any}
 use Rattle.std.proofs.lemmas.Bool.{cases_Bool, or_from, not-true, and_parts, eqb-true}
 use Rattle.std.proofs.lemmas.List.{length_push, append-nil, take_at, nil_from_length}
 use Rattle.std.proofs.lemmas.List.Folds.{list_any-append}
-use Rattle.romfs_image.specs.declared.walk.Level.{Level}
-use Rattle.romfs_image.specs.declared.making.Place.{Place}
+use Rattle.romfs_image.specs.declared.level.Level.{Level}
+use Rattle.romfs_image.specs.declared.place.Place.{Place}
 use Rattle.romfs_image.specs.declared.node.RomKind.{RomKind}
 use Rattle.romfs_image.specs.declared.node.RomKind.TheVariants.{Dir, File}
 use Rattle.romfs_image.specs.Words.{padded}

@@ -4,7 +4,7 @@ use Rattle.std.specs.Prelude.{None, Some}
 use Rattle.std.proofs.lemmas.Bool.{leb-false}
 use Rattle.byte_words.specs.Search.{first}
 use Rattle.romfs_image.specs.declared.fault.RomFault.{RomFault}
-use Rattle.romfs_image.specs.declared.walk.Level.{Level}
+use Rattle.romfs_image.specs.declared.level.Level.{Level}
 use Rattle.romfs_image.specs.Header.{name_end, header_at}
 use Rattle.romfs_image.specs.Fault.{header_rows, header_fault}
 use Rattle.romfs_image.specs.Walk.{Entry, levels_behind, entries_behind, or_else, fault_at, walk, walked}

@@ -6,7 +6,7 @@ use Rattle.std.proofs.lemmas.Bool.{and_parts, leb-true, eqb-true, cases_lt}
 use Rattle.std.proofs.lemmas.List.{length-append, length-replicate, take_all}
 use Rattle.romfs_image.specs.declared.node.RomKind.{RomKind}
 use Rattle.romfs_image.specs.declared.node.RomKind.TheVariants.{Dir, File}
-use Rattle.romfs_image.specs.declared.making.Place.{Place}
+use Rattle.romfs_image.specs.declared.place.Place.{Place}
 use Rattle.romfs_image.specs.Words.{padded}
 use Rattle.romfs_image.specs.Fault.{is_dots}
 use Rattle.romfs_image.specs.Nodes.{RomValue}

@@ -7,7 +7,7 @@ use Rattle.std.proofs.lemmas.List.{reverse-append}
 use Rattle.std.proofs.lemmas.List.Folds.{list_any-append}
 use Rattle.romfs_image.specs.declared.fault.RomFault.{RomFault}
 use Rattle.romfs_image.specs.declared.fault.RomFault.TheVariants as fault
-use Rattle.romfs_image.specs.declared.walk.Level.{Level}
+use Rattle.romfs_image.specs.declared.level.Level.{Level}
 use Rattle.romfs_image.specs.Header.{Header, name_end, header_at}
 use Rattle.romfs_image.specs.Fault.{is_node, header_fault}
 use Rattle.romfs_image.specs.Walk.{Entry, pending, levels_behind, entries_behind, repeat_fault, or_else, unless, fault_at, walk, walked}

@@ -12,13 +12,13 @@ use Rattle.romfs_image.specs.declared.header.Header as code
 use Rattle.romfs_image.specs.declared.kind.HeaderKind.{HeaderKind}
 use Rattle.romfs_image.specs.declared.kind.HeaderKind.TheVariants.{HardLink, Folder, File, SymbolicLink, BlockDevice, CharDevice, Socket, Fifo}
 use Rattle.romfs_image.specs.declared.node.RomNode as node
-use Rattle.romfs_image.specs.declared.walk.Entry as code_entry
-use Rattle.romfs_image.specs.declared.walk.Level.{Level}
+use Rattle.romfs_image.specs.declared.level.Entry as code_entry
+use Rattle.romfs_image.specs.declared.level.Level.{Level}
 use Rattle.romfs_image.specs.Header.{Header}
 use Rattle.romfs_image.specs.Walk.{Entry, is_named}
 use Rattle.romfs_image.specs.Reading.{is_file_at, is_dangling}
 use Rattle.romfs_image.specs.Nodes.{RomValue}
-use Rattle.romfs_image.specs.declared.making.Place.{Place}
+use Rattle.romfs_image.specs.declared.place.Place.{Place}
 use Rattle.romfs_image.specs.Text.{node_len, first_in, place_at, most_bytes}
 
 -- the number of a type

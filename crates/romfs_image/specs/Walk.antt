@@ -3,7 +3,7 @@ use Rattle.std.specs.Prelude.{ℕ, zero, suc, ◌+◌, Bool, ◌&&◌, ◌==◌,
 use Rattle.std.specs.List.{list_any}
 use Rattle.romfs_image.specs.declared.fault.RomFault.{RomFault}
 use Rattle.romfs_image.specs.declared.fault.RomFault.TheVariants as fault
-use Rattle.romfs_image.specs.declared.walk.Level.{Level}
+use Rattle.romfs_image.specs.declared.level.Level.{Level}
 use Rattle.romfs_image.specs.Header.{Header, header_at, name_end}
 use Rattle.romfs_image.specs.Fault.{is_node, header_fault}
 

@@ -8,10 +8,12 @@ mod fault;
 mod header;
 mod kind;
 mod laws;
+mod level;
 mod links;
 mod making;
 mod node;
 mod paths;
+mod place;
 mod rom;
 mod walk;
 

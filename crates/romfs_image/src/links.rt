@@ -9,8 +9,8 @@ ghost use Rattle.romfs_image.specs.Code.{kind_number, header_value, entry_value,
 use crate::fault::RomFault;
 use crate::header::{Header, file_bytes, header_at};
 use crate::kind::HeaderKind;
+use crate::level::Entry;
 use crate::node::{RomKind, RomNode};
-use crate::walk::Entry;
 use std::alloc::{AllocError, Global};
 use std::collections::BTreeSet;
 

@@ -10,6 +10,7 @@ ghost use Rattle.romfs_image.specs.Code.{node_value, Places, AreNamed, HasHeads,
 use crate::fault::MakeFault;
 use crate::header::{header_len, padded, sum_of};
 use crate::node::{RomKind, RomNode};
+use crate::place::Place;
 use std::alloc::{AllocError, Global};
 use std::collections::BTreeMap;
 
@@ -117,19 +118,6 @@ fn push_dots(
 {
     push_header(out, at + 32, own, 0, b".")?;
     push_header(out, first, parent, 0, b"..")
-}
-
-/// Where a node stands, and what its headers name.
-#[derive(Clone, Copy)]
-pub struct Place {
-    /// Its header.
-    pub at: u32,
-    /// The next header of its folder, or 0.
-    pub next: u32,
-    /// Its folder's header.
-    pub parent: u32,
-    /// The first header of its own list behind `.` and `..`, or 0.
-    pub first: u32,
 }
 
 /// Adds a node: its header, and a file's bytes or a folder's `.` and `..`.

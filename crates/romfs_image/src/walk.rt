@@ -9,25 +9,9 @@ ghost use Rattle.romfs_image.specs.Reading.{FilesFit};
 
 use crate::fault::RomFault;
 use crate::header::{Header, is_node, name_end, sound_header};
+use crate::level::{Entry, Level};
 use std::alloc::{AllocError, Global};
 use std::collections::BTreeSet;
-
-/// A position where the walk goes on.
-#[derive(Clone, Copy)]
-pub struct Level {
-    pub at: u32,
-    /// The number of the folder there: 0 for the root, else that of its entry, from 1.
-    pub folder: u32,
-}
-
-/// A header that isn't passed over.
-#[derive(Clone, Copy)]
-pub struct Entry<'a> {
-    /// The number of its folder.
-    pub folder: u32,
-    pub at: u32,
-    pub header: Header<'a>,
-}
 
 /// Goes on at a position too, unless that is 0.
 fn go_on(levels: &mut Vec<Level>, at: u32, folder: u32) -> Result<(), AllocError>

@@ -7,7 +7,7 @@ use Rattle.std.proofs.lemmas.List.{append-nil}
 use Rattle.host_io.specs.Host.{Files, Told}
 use Rattle.page_runs.specs.declared.place.Kind.{Kind}
 use Rattle.file_commands.specs.Outcome.{Request, load, store, Outcome, Inputs, name_of}
-use Rattle.file_commands.specs.declared.arguments.Format.{Format}
+use Rattle.file_commands.specs.declared.command.Format.{Format}
 use Rattle.file_commands.specs.Arguments.{KeptItems, Invocation, convert, list, check, run, trace, romfs, unromfs, replay, demo, command_of}
 use Rattle.file_commands.specs.OneFile.{with_found}
 use Rattle.file_commands.specs.Convert.{converted_outcome}

@@ -14,7 +14,7 @@ use Rattle.file_commands.specs.Texts.Listing.{listing, flat_tail}
 use Rattle.bflt_format.specs.Header.{flat_values}
 use Rattle.file_commands.specs.Ending.{Ending, done_ending, refuted_ending, usage_ending, refused_ending}
 use Rattle.file_commands.specs.Outcome.{Request, load, store, failure_ending, Outcome, Inputs, after}
-use Rattle.file_commands.specs.declared.arguments.Format.{Format}
+use Rattle.file_commands.specs.declared.command.Format.{Format}
 use Rattle.file_commands.specs.Arguments.{Invocation, convert, list, check, run, trace, romfs, unromfs, replay, demo, IsNoRun, default_stack, command_of}
 use Rattle.file_commands.specs.OneFile.{file_limit, with_found, with_file}
 use Rattle.file_commands.specs.Convert.{judged_outcome, converted_outcome}

@@ -4,7 +4,7 @@ use Rattle.items_text.specs.Items.{ItemsValue}
 use Rattle.items_text.specs.Lines.{text_of}
 use Rattle.recorded_items.specs.Recorded.{recorded}
 use Rattle.machine_world.specs.World.{World}
-use Rattle.file_commands.specs.declared.arguments.KeptItems.{KeptItems as KeptArguments}
+use Rattle.file_commands.specs.declared.command.KeptItems.{KeptItems as KeptArguments}
 use Rattle.file_commands.specs.Arguments.{KeptItems, kept_value}
 use Rattle.file_commands.specs.Ending.{Ending}
 use Rattle.file_commands.specs.Outcome.{Request, store, Outcome}

@@ -7,7 +7,7 @@ use Rattle.file_commands.specs.declared.status.Status.TheVariants.{Done, Usage, 
 use Rattle.file_commands.specs.Texts.{memory_line}
 use Rattle.file_commands.specs.Ending.{Ending, memory_ending}
 use Rattle.file_commands.specs.Outcome.{Request, load, store, failure_ending, Inputs}
-use Rattle.file_commands.specs.declared.arguments.Format.{Format}
+use Rattle.file_commands.specs.declared.command.Format.{Format}
 use Rattle.file_commands.specs.Arguments.{replay, IsNoRun, least_stack, most_stack, stack_of, command_of}
 use Rattle.suite_top.specs.Result.{result_of}
 use Rattle.file_commands.specs.HostCourse.{after_failure, after_answers, Performs}

@@ -13,6 +13,7 @@ mod points;
 mod report;
 mod run;
 mod telling;
+mod told;
 mod top;
 mod watched;
 

@@ -32,7 +32,8 @@ use crate::course::Course;
 use crate::kept::{keep_items, keep_of};
 use crate::points::Points;
 use crate::report::dumps_text;
-use crate::telling::{Telling, told, watch_of};
+use crate::telling::{Telling, watch_of};
+use crate::told::told;
 use crate::watched::{found_text, spans_of};
 use file_commands::texts::refusals::refused_manifest;
 use file_commands::{

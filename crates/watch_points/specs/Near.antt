@@ -7,7 +7,7 @@ use Rattle.rv32im_step.specs.declared.regs.Regs.{Regs}
 use Rattle.rv32im_step.specs.declared.stop.Stop.{Stop}
 use Rattle.rv32im_step.specs.declared.stop.Stop.TheVariants.{Next}
 use Rattle.rv32im_step.specs.Asked.{Asked}
-use Rattle.mmap_rules.specs.declared.owners.PageOwner.{PageOwner}
+use Rattle.mmap_rules.specs.declared.page_owner.PageOwner.{PageOwner}
 use Rattle.region_watch.specs.declared.mode.Mode.{Mode}
 use Rattle.region_watch.specs.declared.mode.Mode.TheVariants.{Halt}
 use Rattle.region_watch.specs.Private.{passes, passed_bytes, kept_bytes}

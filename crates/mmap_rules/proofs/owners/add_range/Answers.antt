@@ -1,5 +1,5 @@
 use Rattle.std.proofs.Common.{◌≡◌, ◌+◌, ◌-◌, ◌^◌, ◌<◌, ◌/◌, length, length-set, refl, arith}
-use Rattle.mmap_rules.specs.declared.owners.PageOwner.{PageOwner}
+use Rattle.mmap_rules.specs.declared.page_owner.PageOwner.{PageOwner}
 use Rattle.mmap_rules.specs.Owners.{entered}
 use Rattle.mmap_rules.proofs.Tables.{entered_missed, each_none, each_more, each_all}
 use Rattle.mmap_rules.proofs.owners.add_range.Goals as goal

@@ -1,5 +1,5 @@
 use Rattle.std.proofs.Common.{◌≡◌, ◌+◌, ◌-◌, ◌^◌, ◌<◌, ◌/◌, length, length-set, refl, arith}
-use Rattle.mmap_rules.specs.declared.owners.PageOwner.{PageOwner}
+use Rattle.mmap_rules.specs.declared.page_owner.PageOwner.{PageOwner}
 use Rattle.mmap_rules.specs.Owners.{taken_out}
 use Rattle.mmap_rules.proofs.Tables.{taken_out_missed, each_none, each_more, each_all}
 use Rattle.mmap_rules.proofs.owners.remove_range.Goals as goal

@@ -2,7 +2,7 @@
 use Rattle.std.proofs.Common.{◌≡◌, length, sym, subst, ◌∙◌, List, Ok, Err}
 use Rattle.std.specs.Prelude.{slice_index}
 use Rattle.call_log.specs.Sent.{sent}
-use Rattle.mmap_rules.specs.declared.owners.PageOwner.{PageOwner}
+use Rattle.mmap_rules.specs.declared.page_owner.PageOwner.{PageOwner}
 use Rattle.region_watch.specs.Private.{only, physical, own_bytes}
 use Rattle.vfork_exec.specs.Procs.{Lives}
 use Rattle.machine_world.specs.Event.{number_of, args_of}

@@ -2,7 +2,7 @@
 use Rattle.std.proofs.Common.{ℕ, List, ap, ◌∙◌}
 use Rattle.flat_machine.specs.State.{world}
 use Rattle.suite_top.specs.Telling.{ending_with}
-use Rattle.suite_top.proofs.telling.reported.Goals as goal
+use Rattle.suite_top.proofs.told.reported.Goals as goal
 
 pub returns : goal.returns
 returns c =
