@@ -11,9 +11,11 @@ mod image;
 mod laws;
 mod met;
 mod overlap;
+mod placed;
 mod places;
 mod refusal;
 mod slide;
+mod sliding;
 mod target;
 mod word;
 
