@@ -6,6 +6,7 @@
 mod collect;
 mod conversion;
 mod cover;
+mod covering;
 mod found;
 mod image;
 mod laws;
