@@ -10,8 +10,8 @@ use Rattle.mmap_rules.specs.Owners.{owns}
 use Rattle.region_watch.specs.Private.{only, physical}
 use Rattle.region_watch.proofs.Accesses.{own_within}
 use Rattle.call_log.specs.Sent.{Span, read_span, followed, up_to_zero, path_from, write_sent, writev_sent, readv_sent, path_sent, has_path, exec_sent, sent}
-use Rattle.call_bytes.specs.declared.reading.Unread.{Unread}
-use Rattle.call_bytes.specs.declared.reading.Unread.TheVariants.{Stray, Memory}
+use Rattle.call_bytes.specs.declared.unread.Unread.{Unread}
+use Rattle.call_bytes.specs.declared.unread.Unread.TheVariants.{Stray, Memory}
 use Rattle.call_bytes.specs.Reading.{Reads, ReadsByte, appended}
 use Rattle.call_bytes.proofs.ReadRanges.{read_own, followed_is, appended_all}
 

@@ -12,8 +12,8 @@ use Rattle.mmap_rules.specs.Owners.{owns}
 use Rattle.region_watch.specs.Private.{only, physical}
 use Rattle.region_watch.proofs.Accesses.{own_within}
 use Rattle.call_log.specs.Sent.{Span, cons_byte, bytes_from, or_stray, read_span, followed, read_spans, piece_spans, data_spans, writev_sent}
-use Rattle.call_bytes.specs.declared.reading.Unread.{Unread}
-use Rattle.call_bytes.specs.declared.reading.Unread.TheVariants.{Stray, Memory}
+use Rattle.call_bytes.specs.declared.unread.Unread.{Unread}
+use Rattle.call_bytes.specs.declared.unread.Unread.TheVariants.{Stray, Memory}
 use Rattle.call_bytes.specs.Reading.{Reads, appended, Appends}
 
 -- ---- one range

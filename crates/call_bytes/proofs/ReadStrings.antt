@@ -9,8 +9,8 @@ use Rattle.byte_words.specs.ByteMap.{Bytes}
 use Rattle.byte_words.specs.Numbers.{low_first, number_at}
 use Rattle.vfork_exec.proofs.Keyed.{eqb_other}
 use Rattle.call_log.specs.Sent.{Span, read_span, followed, string_from, strings_from, list_sent, strings_sent, path_sent, exec_sent, has_zero}
-use Rattle.call_bytes.specs.declared.reading.Unread.{Unread}
-use Rattle.call_bytes.specs.declared.reading.Unread.TheVariants.{Stray, Memory}
+use Rattle.call_bytes.specs.declared.unread.Unread.{Unread}
+use Rattle.call_bytes.specs.declared.unread.Unread.TheVariants.{Stray, Memory}
 use Rattle.call_bytes.specs.Reading.{Reads, appended, AppendsNumber, ReadsOn}
 use Rattle.call_bytes.proofs.ReadRanges.{appended_all, appended_strays, followed_is}
 

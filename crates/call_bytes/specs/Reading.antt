@@ -1,8 +1,8 @@
 -- What the reading of a call's bytes answers.
 use Rattle.std.specs.Prelude.{◌≡◌, ℕ, List, [], ◌∷◌, ◌++◌, Vec, Option, Some, None, Result, Ok, Err, ⊤}
 use Rattle.call_log.specs.Sent.{Span}
-use Rattle.call_bytes.specs.declared.reading.Unread.{Unread}
-use Rattle.call_bytes.specs.declared.reading.Unread.TheVariants.{Stray, Memory}
+use Rattle.call_bytes.specs.declared.unread.Unread.{Unread}
+use Rattle.call_bytes.specs.declared.unread.Unread.TheVariants.{Stray, Memory}
 
 -- what was read, or the range that strays; out of memory says nothing
 abbrev pub Reads : {Y : Type 0} → Result (List ℕ) Span → Result (Vec ℕ Y) Unread → Type 0

@@ -2,8 +2,8 @@
 use Rattle.std.specs.Prelude.{Option, Some, None}
 use Rattle.call_log.specs.Strings.{Strings, ProgramStrings}
 use Rattle.flat_loader.specs.Frame.{texts}
-use Rattle.call_bytes.specs.declared.strings.StringList.{StringList}
-use Rattle.call_bytes.specs.declared.strings.ProgramStrings.{ProgramStrings as StoredProgram}
+use Rattle.call_bytes.specs.declared.string_lists.StringList.{StringList}
+use Rattle.call_bytes.specs.declared.string_lists.ProgramStrings.{ProgramStrings as StoredProgram}
 
 -- of a list, with what was read behind it
 abbrev pub list_value : Option StringList → Option Strings

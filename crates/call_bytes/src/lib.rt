@@ -7,9 +7,13 @@
 mod laws;
 mod output;
 mod reading;
+mod string_lists;
 mod strings;
+mod unread;
 
 pub use laws::strings_law;
 pub use output::{got_len, put, stray_got};
-pub use reading::{Unread, read_range, read_sent};
-pub use strings::{ProgramStrings, at_zero, program_strings};
+pub use reading::{read_range, read_sent};
+pub use string_lists::ProgramStrings;
+pub use strings::{at_zero, program_strings};
+pub use unread::Unread;

@@ -6,11 +6,12 @@ ghost use Rattle.call_log.specs.Sent.{read_span, read_spans, piece_spans, data_s
 ghost use Rattle.region_watch.specs.Private.{own_bytes};
 ghost use Rattle.call_bytes.specs.Reading.{Reads, ReadsByte, Appends, AppendsNumber, ReadsOn};
 
+use crate::unread::Unread;
 use byte_words::word;
 use call_log::numbers;
 use mmap_rules::Owners;
 use phys_mem::{BASE, PhysMem};
-use std::alloc::{AllocError, Global};
+use std::alloc::Global;
 
 /// The most bytes that one call moves.
 const MOST_MOVED: u32 = 16_777_216;
@@ -24,26 +25,6 @@ const MOST_PATH: u32 = 4096;
 /// The most bytes of the arguments and the environment of a program: four for each pointer, and those of the strings with
 /// their zeros.
 const MOST_STRINGS: u32 = 1_048_576;
-
-/// Why the bytes of a call are not read.
-#[derive(Clone, Copy, PartialEq, Eq)]
-pub enum Unread {
-    /// A byte of this range isn't own in the table that is read by: its first address, and its bytes.
-    Stray { addr: u32, len: u32 },
-    /// Out of host memory.
-    Memory,
-}
-
-impl From<AllocError> for Unread {
-    ghost use Rattle.std.specs.Prelude.{◌≡◌};
-    ghost use Rattle.call_bytes.specs.declared.reading.Unread.TheVariants.{Memory};
-
-    ghost from_gives = { λ _ e. e ≡ Memory };
-
-    fn from(_error: AllocError) -> Unread {
-        Unread::Memory
-    }
-}
 
 /// Adds the bytes of a range, with one copy. Where it strays or memory is out, nothing is added.
 pub fn read_range(

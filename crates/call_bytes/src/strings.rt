@@ -5,22 +5,9 @@ ghost use Rattle.call_log.specs.Sent.{has_zero};
 ghost use Rattle.call_log.specs.Strings.{before_zero, behind_zero, strings_in, strings_of, program_strings};
 ghost use Rattle.call_bytes.specs.StringsOf.{list_value, program_value};
 
+use crate::string_lists::{ProgramStrings, StringList};
 use byte_words::word;
 use std::alloc::{AllocError, Global};
-
-/// The arguments and the environment of a program.
-#[derive(Drop)]
-pub struct ProgramStrings {
-    pub args: Vec<Vec<u8>>,
-    pub env: Vec<Vec<u8>>,
-}
-
-/// The strings of a list, and what was read behind it.
-#[derive(Drop)]
-struct StringList<'a> {
-    strings: Vec<Vec<u8>>,
-    behind: &'a [u8],
-}
 
 /// What stands before the first zero, and what stands behind it.
 pub fn at_zero(bytes: &[u8]) -> Option<(&[u8], &[u8])>

@@ -9,7 +9,7 @@ use Rattle.psabi_relocs.specs.declared.spans.Span.{Span}
 use Rattle.psabi_relocs.specs.Effect.{spans}
 use Rattle.elf2flt_tool.specs.declared.cover.Cover.{Cover}
 use Rattle.elf2flt_tool.specs.declared.overlap.Recorded.{Recorded}
-use Rattle.elf2flt_tool.specs.declared.conversion.Placed.{Placed}
+use Rattle.elf2flt_tool.specs.declared.placed.Placed.{Placed}
 use Rattle.elf2flt_tool.specs.Relocs.{spans_in}
 use Rattle.elf2flt_tool.specs.Cover.{recorded_of, IsCover}
 use Rattle.elf2flt_tool.specs.Word.{records, word_overlap}

@@ -11,9 +11,10 @@ ghost use Rattle.elf2flt_tool.specs.Walk.{IsPlaced, IsPrepared};
 use crate::collect::cover_all;
 use crate::image::{HEADER_LEN, linked_file, linked_len, with_numbers};
 use crate::met::lowest_overlap;
+use crate::placed::Placed;
 use crate::places::places_of;
 use crate::refusal::Refusal;
-use crate::slide::{slid_file, slides_of};
+use crate::sliding::{slid_file, slides_of};
 use crate::target::lowest_outside;
 use bflt_format::Flat;
 use elf32_reader::Elf;
@@ -22,15 +23,6 @@ use std::alloc::Global;
 
 /// The stack is a multiple of this many bytes.
 const STACK_UNIT: u32 = 16;
-
-/// What the conversion keeps of the walk over the relocations.
-#[derive(Drop)]
-pub struct Placed {
-    /// The numbers at which recorded words begin, ascending and distinct.
-    pub places: Vec<u32>,
-    /// The lowest of them whose word meets the bytes of another relocation.
-    pub met: Option<u32>,
-}
 
 /// The linked address of the byte with a number.
 fn address_of(layout: &Layout, number: u32) -> u32

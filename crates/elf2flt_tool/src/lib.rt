@@ -6,14 +6,17 @@
 mod collect;
 mod conversion;
 mod cover;
+mod covering;
 mod found;
 mod image;
 mod laws;
 mod met;
 mod overlap;
+mod placed;
 mod places;
 mod refusal;
 mod slide;
+mod sliding;
 mod target;
 mod word;
 

@@ -8,8 +8,8 @@ use Rattle.page_runs.proofs.Places.{placed}
 use Rattle.nommu_regions.specs.declared.region.Region.{Region}
 use Rattle.nommu_regions.specs.Regions.{free_of}
 use Rattle.bflt_format.specs.Values.{Values}
-use Rattle.flat_loader.specs.declared.loading.Loaded.{Loaded}
-use Rattle.flat_loader.specs.declared.loading.LoadRefusal.{LoadRefusal}
+use Rattle.flat_loader.specs.declared.loaded.Loaded.{Loaded}
+use Rattle.flat_loader.specs.declared.loaded.LoadRefusal.{LoadRefusal}
 use Rattle.flat_loader.specs.Original.{flat_original, block_pages}
 use Rattle.flat_loader.specs.Frame.{frame_fits}
 use Rattle.flat_loader.specs.Loads.{RefusesLoad, block_page, load_refusal}

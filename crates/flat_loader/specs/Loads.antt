@@ -11,9 +11,9 @@ use Rattle.mmap_rules.specs.Space.{memory_base, in_range}
 use Rattle.mmap_rules.specs.Held.{Held, page_address}
 use Rattle.bflt_format.specs.Values.{Values}
 use Rattle.bflt_format.specs.Spelling.{spell}
-use Rattle.flat_loader.specs.declared.loading.Loaded.{Loaded}
-use Rattle.flat_loader.specs.declared.loading.LoadRefusal.{LoadRefusal}
-use Rattle.flat_loader.specs.declared.loading.LoadRefusal.TheVariants.{E2big, NoRun, Memory}
+use Rattle.flat_loader.specs.declared.loaded.Loaded.{Loaded}
+use Rattle.flat_loader.specs.declared.loaded.LoadRefusal.{LoadRefusal}
+use Rattle.flat_loader.specs.declared.loaded.LoadRefusal.TheVariants.{E2big, NoRun, Memory}
 use Rattle.flat_loader.specs.Original.{flat_original, header_len, block_pages}
 use Rattle.flat_loader.specs.Frame.{frame_fits}
 use Rattle.flat_loader.specs.Begin.{Loading, flat_loading, own_range, in_block, begin_bytes, begin_space, begin_regs}

@@ -11,9 +11,11 @@ mod block;
 mod frame;
 mod image;
 mod laws;
+mod loaded;
 mod loading;
 
 pub use block::{block_len, block_pages, stack_len};
 pub use frame::{frame_fits, frame_len};
 pub use laws::programs_begin;
-pub use loading::{LoadRefusal, Loaded, load, load_at};
+pub use loaded::{LoadRefusal, Loaded};
+pub use loading::{load, load_at};

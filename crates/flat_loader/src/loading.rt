@@ -16,6 +16,7 @@ ghost use Rattle.flat_loader.specs.Loads.{Loads, RefusesLoad, load_refusal};
 use crate::block::{HEADER_LEN, block_len, block_pages, image_len, stack_len};
 use crate::frame::{frame_fits, frame_len, frame_start, write_frame};
 use crate::image::link_words;
+use crate::loaded::{LoadRefusal, Loaded};
 use bflt_format::Flat;
 use byteorder::{BigEndian, ByteOrder};
 use mmap_rules::{Space, SpaceRoom};
@@ -24,27 +25,6 @@ use page_runs::{Chooser, Run};
 use phys_mem::{BASE, PAGE, PhysMem};
 use rv32im_step::Regs;
 use std::alloc::Global;
-
-/// A program that was loaded: its space, its first registers, and its block, which begins at address `base`
-/// and has `pages` pages.
-#[derive(Drop)]
-pub struct Loaded {
-    pub space: Space,
-    pub regs: Regs,
-    pub base: u32,
-    pub pages: u32,
-}
-
-/// Why a program is not loaded.
-#[derive(Clone, Copy, PartialEq, Eq, Drop)]
-pub enum LoadRefusal {
-    /// The start frame does not fit in the stack.
-    E2big,
-    /// No free run of pages holds the block.
-    NoRun,
-    /// The host has no memory for the table of the program's own bytes.
-    Memory,
-}
 
 /// The 64 bytes of the header that is written for a flat file.
 fn header_bytes(flat: &Flat) -> [u8; 64]

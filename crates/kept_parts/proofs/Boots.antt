@@ -15,9 +15,9 @@ use Rattle.flat_loader.specs.Original.{flat_original, block_pages}
 use Rattle.flat_loader.specs.Frame.{frame_fits}
 use Rattle.flat_loader.specs.Begin.{Loading, block_end, begin_regs}
 use Rattle.flat_loader.specs.Loads.{block_page, block_region, held_begin, page_loading, IsLoaded, Loads}
-use Rattle.flat_loader.specs.declared.loading.Loaded.{Loaded}
-use Rattle.flat_loader.specs.declared.loading.LoadRefusal.{LoadRefusal}
-use Rattle.flat_loader.specs.declared.loading.LoadRefusal.TheVariants.{E2big, NoRun, Memory}
+use Rattle.flat_loader.specs.declared.loaded.Loaded.{Loaded}
+use Rattle.flat_loader.specs.declared.loaded.LoadRefusal.{LoadRefusal}
+use Rattle.flat_loader.specs.declared.loaded.LoadRefusal.TheVariants.{E2big, NoRun, Memory}
 use Rattle.machine_world.specs.World.{World}
 use Rattle.machine_world.specs.Recordings.{launched}
 use Rattle.machine_world.specs.Boot.{StartLine, BootFault, args_too_big, begun, Found, placed, fitting}

@@ -23,8 +23,8 @@ use Rattle.memory_world.proofs.InMemory.{answered_begins, exited_begins, cloned_
 use Rattle.kept_parts.specs.declared.task.Task.{Task}
 use Rattle.kept_parts.specs.declared.effect.Effect.{Effect}
 use Rattle.kept_parts.specs.declared.effect.Effect.TheVariants.{Answer, Yield, Break}
-use Rattle.call_bytes.specs.declared.reading.Unread.{Unread}
-use Rattle.call_bytes.specs.declared.reading.Unread.TheVariants.{Stray}
+use Rattle.call_bytes.specs.declared.unread.Unread.{Unread}
+use Rattle.call_bytes.specs.declared.unread.Unread.TheVariants.{Stray}
 use Rattle.kept_parts.specs.declared.reach.Reach.{Reach}
 use Rattle.kept_parts.specs.declared.reach.Reach.TheVariants.{Own, Whole}
 use Rattle.kept_parts.specs.declared.served.Served.{Served}

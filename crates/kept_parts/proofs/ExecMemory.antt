@@ -17,7 +17,7 @@ use Rattle.flat_loader.specs.Original.{flat_original, header_len, block_pages}
 use Rattle.flat_loader.specs.Frame.{frame_fits}
 use Rattle.flat_loader.specs.Begin.{Loading, begin_bytes, begin_space}
 use Rattle.flat_loader.specs.Loads.{block_page, page_loading, Loads}
-use Rattle.flat_loader.specs.declared.loading.LoadRefusal.TheVariants as load_refusal
+use Rattle.flat_loader.specs.declared.loaded.LoadRefusal.TheVariants as load_refusal
 use Rattle.vfork_exec.specs.declared.entry.Entry.{Entry}
 use Rattle.vfork_exec.specs.Keyed.{without}
 use Rattle.vfork_exec.specs.Procs.{borrows as entry_borrows}

@@ -15,9 +15,9 @@ use Rattle.flat_loader.specs.Original.{flat_original, block_pages}
 use Rattle.flat_loader.specs.Frame.{frame_fits}
 use Rattle.flat_loader.specs.Begin.{block_end}
 use Rattle.flat_loader.specs.Loads.{block_region, held_begin, page_loading, IsLoaded, Loads}
-use Rattle.flat_loader.specs.declared.loading.Loaded.{Loaded}
-use Rattle.flat_loader.specs.declared.loading.LoadRefusal.{LoadRefusal}
-use Rattle.flat_loader.specs.declared.loading.LoadRefusal.TheVariants as load_refusal
+use Rattle.flat_loader.specs.declared.loaded.Loaded.{Loaded}
+use Rattle.flat_loader.specs.declared.loaded.LoadRefusal.{LoadRefusal}
+use Rattle.flat_loader.specs.declared.loaded.LoadRefusal.TheVariants as load_refusal
 use Rattle.vfork_exec.specs.declared.entry.Entry.{Entry}
 use Rattle.vfork_exec.specs.Procs.{process, CanRun, Lives, value_at, with_value_at, with_exec}
 use Rattle.vfork_exec.specs.Procs.{borrows as entry_borrows}

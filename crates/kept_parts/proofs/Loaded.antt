@@ -20,7 +20,7 @@ use Rattle.bflt_format.specs.Values.{Values}
 use Rattle.flat_loader.specs.Original.{Original, flat_original, block_pages}
 use Rattle.flat_loader.specs.Begin.{Loading, own_range, in_block, begin_byte, begin_bytes, begin_space}
 use Rattle.flat_loader.specs.Loads.{block_page, block_region, held_begin, page_loading, IsLoaded}
-use Rattle.flat_loader.specs.declared.loading.Loaded.{Loaded}
+use Rattle.flat_loader.specs.declared.loaded.Loaded.{Loaded}
 use Rattle.machine_world.specs.World.{LiveSpace}
 use Rattle.machine_world.specs.Free.{free}
 use Rattle.machine_world.specs.Found.{taken}

@@ -39,7 +39,7 @@ use Rattle.call_bytes.specs.Puts.{stray_range, access_at}
 use Rattle.kept_parts.specs.Serves.{Went, Answered, Serves, Died}
 use Rattle.kept_parts.specs.Gone.{gone}
 use Rattle.kept_parts.specs.Recorded.{event_recorded, call_recorded, room_beside}
-use Rattle.call_bytes.specs.declared.reading.Unread.TheVariants as unread
+use Rattle.call_bytes.specs.declared.unread.Unread.TheVariants as unread
 use Rattle.kept_parts.specs.Calls.{LivesIn, IsCall, Made, Changed, output_reply, Gave, RoomFor, reply_of, ask_in, value_of, maps_by, served_by, noted_entry, noted_call, held_as, after_reply, exit_of, after_exit, Caller, asked_by}
 use Rattle.std.proofs.lemmas.Option.{same_Some}
 use Rattle.call_bytes.proofs.Puts.{put_all, put_strays}

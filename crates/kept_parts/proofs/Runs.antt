@@ -17,8 +17,8 @@ use Rattle.kept_parts.specs.Kept.{Kept}
 use Rattle.kept_parts.specs.Regular.{Regular, HasSpace}
 use Rattle.kept_parts.specs.Calls.{LivesIn, IsCall, Made}
 use Rattle.call_bytes.specs.Reading.{Reads}
-use Rattle.call_bytes.specs.declared.reading.Unread.{Unread}
-use Rattle.call_bytes.specs.declared.reading.Unread.TheVariants.{Stray, Memory}
+use Rattle.call_bytes.specs.declared.unread.Unread.{Unread}
+use Rattle.call_bytes.specs.declared.unread.Unread.TheVariants.{Stray, Memory}
 use Rattle.call_bytes.proofs.Places.{decide}
 use Rattle.kept_parts.proofs.Counts.{eqb_is}
 

@@ -1,6 +1,6 @@
 -- Why a program doesn't start, by the loader's reason.
-use Rattle.flat_loader.specs.declared.loading.LoadRefusal.{LoadRefusal}
-use Rattle.flat_loader.specs.declared.loading.LoadRefusal.TheVariants.{E2big, NoRun, Memory}
+use Rattle.flat_loader.specs.declared.loaded.LoadRefusal.{LoadRefusal}
+use Rattle.flat_loader.specs.declared.loaded.LoadRefusal.TheVariants.{E2big, NoRun, Memory}
 use Rattle.kept_parts.specs.declared.start.StartRefusal.{StartRefusal}
 use Rattle.kept_parts.specs.declared.start.StartRefusal.TheVariants as refusal
 

@@ -3,8 +3,8 @@ use Rattle.std.specs.Prelude.{◌≡◌, ℕ, List, [], ◌∷◌, ◌++◌, map
 use Rattle.manifest_text.specs.declared.fault.ManifestFault.{ManifestFault}
 use Rattle.manifest_text.specs.declared.fault.ManifestRefusal.{ManifestRefusal}
 use Rattle.manifest_text.specs.declared.fault.ManifestRefusal.TheVariants.{At, Memory}
-use Rattle.manifest_text.specs.declared.line.Spoken.{Spoken}
-use Rattle.manifest_text.specs.declared.line.Spoken.TheVariants as spoken
+use Rattle.manifest_text.specs.declared.spoken.Spoken.{Spoken}
+use Rattle.manifest_text.specs.declared.spoken.Spoken.TheVariants as spoken
 use Rattle.manifest_text.specs.declared.draft.Draft.{Draft as Stored}
 use Rattle.manifest_text.specs.declared.manifest.Manifest.{Manifest as StoredManifest}
 use Rattle.manifest_text.specs.Values.{Manifest, item_value, start_value, manifest_value}

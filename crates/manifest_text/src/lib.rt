@@ -3,7 +3,9 @@
 #![tactic(auto)]
 
 mod draft;
+mod drafting;
 mod fault;
+mod first_word;
 mod keyword;
 mod laws;
 mod line;
@@ -12,6 +14,7 @@ mod numbers;
 mod paths;
 mod pieces;
 mod reading;
+mod spoken;
 
 pub use fault::{ManifestFault, ManifestRefusal};
 pub use laws::reasonable_law;

@@ -8,29 +8,18 @@ ghost use Rattle.manifest_text.specs.Lines.{hash, is_bad_byte, item_said, stacke
 ghost use Rattle.manifest_text.specs.Reading.{Says};
 
 use crate::fault::{ManifestFault, ManifestRefusal};
-use crate::keyword::{Keyword, keyword_of};
+use crate::first_word::keyword_of;
+use crate::keyword::Keyword;
 use crate::manifest::{Dump, Item, ItemKind, Start, WatchLine};
 use crate::numbers::{address, number_in, quantum};
 use crate::paths::is_path;
 use crate::pieces::words;
+use crate::spoken::Spoken;
 use quantum_sched::Quantum;
 use std::alloc::{AllocError, Global};
 
 /// The bytes of stack of a program whose line doesn't say it.
 const DEFAULT_STACK: u32 = 4096;
-
-/// What a line says.
-#[derive(Drop)]
-pub(crate) enum Spoken {
-    Nothing,
-    Memory(u32),
-    Item(Item),
-    Start(Start),
-    Quanta(Vec<Quantum>),
-    Repeat(u32),
-    Dump(Dump),
-    Watch(WatchLine),
-}
 
 /// Reads the line of this number.
 #[tactic(auto, unfolding(crate::specs::Lines::line_said))]

@@ -12,8 +12,8 @@ use Rattle.originals.specs.Originals.{elf_original}
 use Rattle.items_text.specs.Items.{ItemsValue}
 use Rattle.replay_check.specs.declared.fault.ReplayFault.{ReplayFault}
 use Rattle.replay_check.specs.declared.fault.ReplayFault.TheVariants as why
-use Rattle.replay_check.specs.declared.program.Original.{Original as Stored}
-use Rattle.replay_check.specs.declared.program.Original.TheVariants as file
+use Rattle.replay_check.specs.declared.original.Original.{Original as Stored}
+use Rattle.replay_check.specs.declared.original.Original.TheVariants as file
 use Rattle.replay_check.specs.declared.verdict.Verdict.{Verdict}
 use Rattle.replay_check.specs.Verdicts.{verdict, verdict_from, Judges}
 use Rattle.replay_check.specs.Loops.{items_alone}

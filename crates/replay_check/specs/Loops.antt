@@ -2,8 +2,8 @@
 use Rattle.std.specs.Prelude.{◌≡◌, ℕ, ◌+◌, ◌<◌, ◌≤◌, List, length, drop, map}
 use Rattle.items_text.specs.Items.{ItemValue}
 use Rattle.flat_loader.specs.Alone.{Solo, Item}
-use Rattle.replay_check.specs.declared.replaying.Step.{Step}
-use Rattle.replay_check.specs.declared.replaying.Step.TheVariants.{Goes, Refuted}
+use Rattle.replay_check.specs.declared.step.Step.{Step}
+use Rattle.replay_check.specs.declared.step.Step.TheVariants.{Goes, Refuted}
 use Rattle.replay_check.specs.declared.verdict.Verdict.TheVariants.{No}
 use Rattle.replay_check.specs.Verdicts.{verdict_from}
 

@@ -10,12 +10,15 @@ mod laws;
 mod lone;
 mod maps;
 mod memory;
+mod original;
 mod program;
 mod ranges;
 mod replaying;
+mod step;
 mod verdict;
 
 pub use fault::ReplayFault;
 pub use laws::verdict_law;
-pub use program::{Original, replay};
+pub use original::Original;
+pub use program::replay;
 pub use verdict::Verdict;

@@ -8,6 +8,7 @@ ghost use Rattle.replay_check.specs.Replays.{original_value, placed_verdict, rep
 
 use crate::fault::{ReplayFault, refused};
 use crate::lone::Lone;
+use crate::original::Original;
 use crate::replaying::replay_all;
 use crate::verdict::Verdict;
 use bflt_format::Flat;
@@ -23,15 +24,6 @@ const END: u64 = 0x8400_0000;
 const LEAST_STACK: u32 = 16;
 
 const MOST_STACK: u32 = 1_048_576;
-
-/// A program that is to be replayed.
-#[derive(Clone, Copy)]
-pub enum Original<'a> {
-    /// A linked ELF file, with the stack of the items.
-    Elf { bytes: &'a [u8] },
-    /// A flat file, with its own stack. That of the items isn't looked at.
-    Flat { flat: &'a Flat },
-}
 
 /// Whether an ELF file's program can have so many bytes of stack.
 fn is_stack(stack: u32) -> bool

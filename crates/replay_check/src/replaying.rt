@@ -9,17 +9,11 @@ ghost use Rattle.replay_check.specs.Solos.{solo_of};
 ghost use Rattle.replay_check.specs.Loops.{items_alone, Advances};
 
 use crate::lone::Lone;
+use crate::step::Step;
 use crate::verdict::Verdict;
 use items_text::Item;
 use rv32im_step::Stop;
 use std::alloc::{AllocError, Global};
-
-/// How far the program came: behind so many events and items, or refuted behind so many events.
-#[derive(Clone, Copy)]
-enum Step {
-    Goes { done: u32, used: usize },
-    Refuted { done: u32 },
-}
 
 /// Instructions, and the event behind them if one is left, of up to `count`.
 fn advance(

@@ -11,7 +11,7 @@ use Rattle.std.proofs.lemmas.List.{length_push, append-nil}
 use Rattle.std.proofs.lemmas.List.Elements.{filter-append}
 use Rattle.std.proofs.lemmas.List.Sums.{fold_push, sum_by_push}
 use Rattle.call_log.specs.Notes.{CallEntry}
-use Rattle.trace_text.specs.declared.counting.Count.{Count}
+use Rattle.trace_text.specs.declared.count.Count.{Count}
 use Rattle.trace_text.specs.Errors.{is_error}
 use Rattle.trace_text.specs.Laws.{Ascends, is_among, NumbersAscend}
 use Rattle.trace_text.specs.Counts.{kept, got_len, calls_of, count_of, count_with, with_number, numbers_of, tally, counts_of}

@@ -3,7 +3,7 @@ use Rattle.std.specs.Prelude.{ℕ, ◌+◌, ◌-◌, ◌^◌, ◌==◌, Bool, tr
 use Rattle.std.specs.List.{filter_map}
 use Rattle.call_log.specs.Notes.{CallEntry, Note, call_note, load_note, end_note, stray_note}
 use Rattle.call_log.specs.Lines.{joined}
-use Rattle.trace_text.specs.declared.counting.Count.{Count}
+use Rattle.trace_text.specs.declared.count.Count.{Count}
 use Rattle.trace_text.specs.Errors.{is_error}
 use Rattle.trace_text.specs.Lines.{name_text}
 

@@ -8,25 +8,12 @@ ghost use Rattle.call_log.specs.Notes.{CallEntry};
 ghost use Rattle.call_log.specs.Values.{entry_value, note_value};
 ghost use Rattle.trace_text.specs.Counts.{kept, got_len, shown_call, shown_calls, count_of, count_with, tally, counts_of, count_line};
 
+use crate::count::Count;
 use crate::error::is_error;
 use crate::lines::{push_name, push_number};
 use call_log::{Entry, Note};
 use std::alloc::{AllocError, Global};
 use std::collections::BTreeMap;
-
-/// Of the calls of one number: how many there were, and what they moved. A sum stands still at its type's end.
-#[derive(Clone, Copy, PartialEq, Eq)]
-pub struct Count {
-    /// From a7.
-    pub number: u32,
-    pub calls: u64,
-    /// How many had an error for a reply.
-    pub errors: u64,
-    /// In bytes.
-    pub sent: u64,
-    /// In bytes.
-    pub got: u64,
-}
 
 impl Count {
     fn none(number: u32) -> Count

@@ -4,6 +4,7 @@
 #![tactic(auto)]
 
 mod call;
+mod count;
 mod counting;
 mod error;
 mod form;
@@ -12,7 +13,8 @@ mod lines;
 mod texts;
 
 pub use call::Call;
-pub use counting::{Count, count_line, counts};
+pub use count::Count;
+pub use counting::{count_line, counts};
 pub use form::Form;
 pub use laws::{lines_law, numbers_law};
 pub use lines::line;

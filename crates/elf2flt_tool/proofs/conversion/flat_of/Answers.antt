@@ -14,7 +14,7 @@ use Rattle.elf2flt_tool.specs.Image.{bare}
 use Rattle.elf2flt_tool.specs.Word.{records, word_at, AreApart}
 use Rattle.elf2flt_tool.specs.Walk.{IsPrepared}
 use Rattle.elf2flt_tool.specs.Fault.{fault}
-use Rattle.elf2flt_tool.specs.declared.conversion.Placed.{Placed}
+use Rattle.elf2flt_tool.specs.declared.placed.Placed.{Placed}
 use Rattle.elf2flt_tool.specs.Converted.{number_patch, converted}
 use Rattle.elf2flt_tool.proofs.Recorded.{is_clear, is_linked}
 use Rattle.elf2flt_tool.proofs.Ascending.{places_inside, are_apart}

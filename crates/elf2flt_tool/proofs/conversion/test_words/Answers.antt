@@ -6,7 +6,7 @@ use Rattle.bflt_format.specs.Flat.{behind_header}
 use Rattle.flat_layout.specs.declared.layout.Layout.{Layout}
 use Rattle.flat_layout.specs.Layout.{layout, size_of}
 use Rattle.flat_layout.proofs.Facts.{size_le}
-use Rattle.elf2flt_tool.specs.declared.conversion.Placed.{Placed}
+use Rattle.elf2flt_tool.specs.declared.placed.Placed.{Placed}
 use Rattle.elf2flt_tool.specs.declared.refusal.Refusal.TheVariants as refusals
 use Rattle.elf2flt_tool.specs.Image.{bare}
 use Rattle.elf2flt_tool.specs.Fault.{address_of}

@@ -5,8 +5,8 @@ use Rattle.std.proofs.lemmas.Result.{err_from_is_err_and}
 use Rattle.page_runs.specs.Choosers.{kind_of}
 use Rattle.vfork_exec.specs.Procs.{value_at}
 use Rattle.memory_world.specs.Physical.{called_in}
-use Rattle.call_bytes.specs.declared.reading.Unread.{Unread}
-use Rattle.call_bytes.specs.declared.reading.Unread.TheVariants.{Stray}
+use Rattle.call_bytes.specs.declared.unread.Unread.{Unread}
+use Rattle.call_bytes.specs.declared.unread.Unread.TheVariants.{Stray}
 use Rattle.kept_parts.specs.Kept.{Kept}
 use Rattle.kept_parts.specs.Regular.{IsRegular}
 use Rattle.kept_parts.specs.Serves.{WaitsAt}

@@ -5,7 +5,7 @@ use Rattle.std.specs.Option.{option_to_list}
 use Rattle.std.proofs.lemmas.List.{take_all}
 use Rattle.call_log.specs.declared.note.Note.{Note}
 use Rattle.call_log.specs.Values.{note_value}
-use Rattle.trace_text.specs.declared.counting.Count.{Count}
+use Rattle.trace_text.specs.declared.count.Count.{Count}
 use Rattle.trace_text.specs.Counts.{shown_call, shown_calls, tally, counts_of}
 use Rattle.trace_text.proofs.Shown.{shown_more}
 use Rattle.trace_text.proofs.CountSteps.{values_tally}

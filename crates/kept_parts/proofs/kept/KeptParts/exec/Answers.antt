@@ -4,7 +4,7 @@ use Rattle.page_runs.specs.Choosers.{kind_of}
 use Rattle.call_log.specs.Notes.{Note, load_note, has_room}
 use Rattle.flat_loader.specs.Frame.{texts}
 use Rattle.flat_loader.specs.Loads.{IsLoaded}
-use Rattle.flat_loader.specs.declared.loading.LoadRefusal.TheVariants as refusal
+use Rattle.flat_loader.specs.declared.loaded.LoadRefusal.TheVariants as refusal
 use Rattle.vfork_exec.specs.Procs.{CanRun}
 use Rattle.kept_parts.specs.declared.served.Served.TheVariants.{Replied}
 use Rattle.kept_parts.specs.Kept.{Kept}

@@ -1,6 +1,6 @@
 use Rattle.std.proofs.Common.{◌≡◌, length, take, drop}
 use Rattle.elf2flt_tool.specs.Slides.{IsSlid, GoDown, end_of}
-use Rattle.elf2flt_tool.proofs.slide.slide_all.Given as goal
+use Rattle.elf2flt_tool.proofs.sliding.slide_all.Given as goal
 
 abbrev pub invariant-loop-slide : goal.invariant-loop-slide
 invariant-loop-slide l =

@@ -4,7 +4,7 @@ use Rattle.byte_words.specs.Patches.{painted, bytes_below}
 use Rattle.bflt_format.specs.Flat.{behind_header}
 use Rattle.elf2flt_tool.specs.Slides.{slid_patch}
 use Rattle.elf2flt_tool.proofs.Slid.{slid_whole}
-use Rattle.elf2flt_tool.proofs.slide.slid_file.Goals as goal
+use Rattle.elf2flt_tool.proofs.sliding.slid_file.Goals as goal
 
 -- the file as a slice was written back into its list, which was cut behind the last slide and lengthened with zeros
 written_back : (old new : List ℕ) (n : ℕ) → n ≡ length old → length new ≡ length old → take n (new ++ drop (length new) old) ≡ new

@@ -10,8 +10,8 @@ use Rattle.elf2flt_tool.specs.declared.slide.Slide.{Slide}
 use Rattle.elf2flt_tool.specs.Image.{section_patch, bare}
 use Rattle.elf2flt_tool.specs.Slides.{section_slide, end_of}
 use Rattle.elf2flt_tool.proofs.Slid.{is_inside, down_more, end_more, has_header, brought_more, brought_same}
-use Rattle.elf2flt_tool.proofs.slide.slides_of.Goals as goal
-use Rattle.elf2flt_tool.proofs.slide.slides_of.Goals.{then-has_bytes+else-slide-end+else-slide+in_ok-push, else-has_bytes}
+use Rattle.elf2flt_tool.proofs.sliding.slides_of.Goals as goal
+use Rattle.elf2flt_tool.proofs.sliding.slides_of.Goals.{then-has_bytes+else-slide-end+else-slide+in_ok-push, else-has_bytes}
 
 pub loop-index-init : goal.loop-index-init
 loop-index-init c = rw c.new-slides.ensures.items (tt, refl, omega arith, refl)

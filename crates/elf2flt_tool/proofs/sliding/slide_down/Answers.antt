@@ -2,7 +2,7 @@ use Rattle.std.proofs.Common.{◌≡◌, ◌+◌, ◌-◌, ◌++◌, length, tak
 use Rattle.std.proofs.lemmas.List.{length-take-le, length-drop, length-replicate, drop-drop}
 use Rattle.byte_words.specs.Patches.{laid}
 use Rattle.elf2flt_tool.proofs.Slid.{slid_down}
-use Rattle.elf2flt_tool.proofs.slide.slide_down.Goals as goal
+use Rattle.elf2flt_tool.proofs.sliding.slide_down.Goals as goal
 
 pub returns : goal.returns
 returns c =

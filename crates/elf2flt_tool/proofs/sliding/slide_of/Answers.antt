@@ -2,7 +2,7 @@ use Rattle.std.proofs.Common.{arith, refl}
 use Rattle.flat_layout.proofs.Facts.{size_le, text-data, laid_out}
 use Rattle.flat_layout.proofs.Numbers.{is_numbered, stored_inside}
 use Rattle.elf2flt_tool.specs.Slides.{section_slide}
-use Rattle.elf2flt_tool.proofs.slide.slide_of.Goals as goal
+use Rattle.elf2flt_tool.proofs.sliding.slide_of.Goals as goal
 
 pub overflow_add-result : goal.overflow_add-result
 overflow_add-result c =

@@ -1,5 +1,5 @@
 use Rattle.std.proofs.Common.{◌≡◌, ℕ, ◌+◌, ◌&&◌, nat_le, nat_lt, min, slice_index, if◌then◌else◌}
-use Rattle.elf2flt_tool.proofs.cover.count_more.Given as goal
+use Rattle.elf2flt_tool.proofs.covering.count_more.Given as goal
 
 -- the bytes below this one are counted
 abbrev pub invariant-loop-byte : goal.invariant-loop-byte

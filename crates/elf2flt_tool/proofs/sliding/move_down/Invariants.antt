@@ -1,6 +1,6 @@
 use Rattle.std.proofs.Common.{◌≡◌, ◌-◌, ◌<◌, ◌≤◌, take, drop}
 use Rattle.byte_words.specs.Patches.{laid}
-use Rattle.elf2flt_tool.proofs.slide.move_down.Given as goal
+use Rattle.elf2flt_tool.proofs.sliding.move_down.Given as goal
 
 -- the bytes that were moved so far, laid over the file as it was
 abbrev pub invariant-loop-done : goal.invariant-loop-done

@@ -8,7 +8,7 @@ use Rattle.manifest_text.specs.declared.manifest.ItemKind.{ItemKind}
 use Rattle.manifest_text.specs.declared.manifest.Item.{Item as StoredItem}
 use Rattle.manifest_text.specs.Values.{item_value}
 use Rattle.manifest_text.specs.Manifest.{is_stdin, is_root, repeats}
-use Rattle.manifest_text.proofs.draft.repeats.Goals as goal
+use Rattle.manifest_text.proofs.drafting.repeats.Goals as goal
 
 any_value : (is : ItemKind → Bool) (items : List StoredItem) → list_any (λ (i : StoredItem). is i.kind) items ≡ list_any (λ i. is i.kind) (map item_value items)
 any_value is [] = refl

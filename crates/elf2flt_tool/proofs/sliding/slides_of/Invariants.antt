@@ -3,7 +3,7 @@ use Rattle.std.specs.List.{range_with_len}
 use Rattle.byte_words.specs.Patches.{painted, bytes_below}
 use Rattle.elf2flt_tool.specs.Image.{section_patch}
 use Rattle.elf2flt_tool.specs.Slides.{slid_patch, GoDown, end_of}
-use Rattle.elf2flt_tool.proofs.slide.slides_of.Given as goal
+use Rattle.elf2flt_tool.proofs.sliding.slides_of.Given as goal
 
 -- the slides so far bring the bytes of the sections so far
 abbrev pub invariant-loop-index : goal.invariant-loop-index

@@ -2,7 +2,7 @@ use Rattle.std.proofs.Common.{◌≡◌, ◌+◌, ◌-◌, ◌≤◌, ◌++◌, 
 use Rattle.std.proofs.lemmas.List.{length-take-le, length-drop, drop-drop}
 use Rattle.byte_words.specs.Patches.{laid}
 use Rattle.elf2flt_tool.proofs.Slid.{laid_in_front, length-moved, moved_more}
-use Rattle.elf2flt_tool.proofs.slide.move_down.Goals as goal
+use Rattle.elf2flt_tool.proofs.sliding.move_down.Goals as goal
 
 pub loop-done-preserved : goal.loop-done-preserved
 loop-done-preserved c =

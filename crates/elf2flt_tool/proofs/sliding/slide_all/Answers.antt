@@ -3,7 +3,7 @@ use Rattle.std.proofs.lemmas.List.{take_more, drop_more}
 use Rattle.elf2flt_tool.specs.declared.slide.Slide.{Slide}
 use Rattle.elf2flt_tool.specs.Slides.{IsSlid, GoDown, end_of}
 use Rattle.elf2flt_tool.proofs.Slid.{slid_none, slid_more}
-use Rattle.elf2flt_tool.proofs.slide.slide_all.Goals as goal
+use Rattle.elf2flt_tool.proofs.sliding.slide_all.Goals as goal
 
 pub loop-slide-init : goal.loop-slide-init
 loop-slide-init c = (slid_none c.args.file.now c.requires.header, c.requires.down, refl)
