@@ -147,7 +147,7 @@ fn stays_where_it_strayed(machine: &mut Machine) -> Result<bool, Fail> {
 
 /// The machine of the greeting whose auipc adds 0x2000 to the address.
 fn straying_machine(rt: HostRuntime) -> Result<Machine, Fail> {
-    let mut file = GREETING;
+    let mut file = Vec::from_slice(rt.alloc(), &GREETING)?;
     file[69] = 0x25;
     machine_of(rt, &file)
 }
