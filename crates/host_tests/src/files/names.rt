@@ -3,6 +3,7 @@
 use super::broken_files::{Names, named_host};
 use super::{make_folder, path_in, remove_files, remove_folder};
 use host_io::Host;
+use std::alloc::AllocError;
 use std::test::Fail;
 
 /// A target, its folder, and the new file beside it.
@@ -15,16 +16,22 @@ static ROWS: [Row; 4] = [
     ("/d/e/a.flt", "/d/e", "/d/e/.host_io-7.tmp"),
 ];
 
-/// Whether a store opens these names and no others.
-fn is_named(rt: &HostRuntime, made: &str, row: &Row) -> Result<bool, Fail> {
+/// The names of a row, of which each is the file `written` of a folder.
+fn names_of(rt: &HostRuntime, made: &str, row: &Row) -> Result<Names, AllocError> {
     let (target, folder, beside) = *row;
-    let names = Names {
+    Ok(Names {
         written: path_in(rt, made, "written")?,
         folder,
         beside,
         target,
-    };
-    Ok(named_host(rt, names)?.store(rt.alloc(), target, b"new") == Ok(()))
+    })
+}
+
+/// Whether a store opens these names and no others.
+fn is_named(rt: &HostRuntime, made: &str, row: &Row) -> Result<bool, AllocError> {
+    let names = names_of(rt, made, row)?;
+    let mut host = named_host(rt, names)?;
+    Ok(host.store(rt.alloc(), row.0, b"new").is_ok())
 }
 
 #[test]

@@ -115,12 +115,21 @@ fn runs_to(
 }
 
 /// The greeting is written by the first two quanta, and the program ends by the next two.
+fn runs_twice(machine: &mut Machine) -> Result<bool, Fail> {
+    let writes = runs_to(machine, [4, 2], (End::OutOfQuanta, 6, 2), Some(true))?;
+    let ends = runs_to(machine, [1, 9], (End::AllEnded, 8, 4), None)?;
+    Ok(writes && ends)
+}
+
+/// Whether the machine of the greeting does so. It is owned here, where nothing else is done.
+fn greeting_runs_twice(rt: HostRuntime) -> Result<bool, Fail> {
+    let mut machine = machine_of(rt, &GREETING)?;
+    runs_twice(&mut machine)
+}
+
 #[test]
 fn a_machine_runs_twice(rt: HostRuntime) -> Result<(), Fail> {
-    let mut machine = machine_of(rt, &GREETING)?;
-    let writes = runs_to(&mut machine, [4, 2], (End::OutOfQuanta, 6, 2), Some(true))?;
-    let ends = runs_to(&mut machine, [1, 9], (End::AllEnded, 8, 4), None)?;
-    assert!(rt; writes && ends);
+    assert!(rt; greeting_runs_twice(rt)?);
     Ok(())
 }
 
@@ -136,12 +145,21 @@ fn stays_where_it_strayed(machine: &mut Machine) -> Result<bool, Fail> {
     Ok(run(machine, [9, 9])? == end && run(machine, [9, 9])? == end)
 }
 
+/// The machine of the greeting whose auipc adds 0x2000 to the address.
+fn straying_machine(rt: HostRuntime) -> Result<Machine, Fail> {
+    let mut file = Vec::from_slice(rt.alloc(), &GREETING)?;
+    file[69] = 0x25;
+    machine_of(rt, &file)
+}
+
+/// Whether that one stays there.
+fn straying_stays(rt: HostRuntime) -> Result<bool, Fail> {
+    let mut machine = straying_machine(rt)?;
+    stays_where_it_strayed(&mut machine)
+}
+
 #[test]
 fn a_machine_stays_where_it_strayed(rt: HostRuntime) -> Result<(), Fail> {
-    let mut file = GREETING;
-    // auipc, which adds 0x2000 to the address.
-    file[69] = 0x25;
-    let mut machine = machine_of(rt, &file)?;
-    assert!(rt; stays_where_it_strayed(&mut machine)?);
+    assert!(rt; straying_stays(rt)?);
     Ok(())
 }

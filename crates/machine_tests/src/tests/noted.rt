@@ -104,13 +104,23 @@ fn begun(rt: HostRuntime) -> Result<Option<KeptParts>, Fail> {
     Ok(is_begun.then_some(parts))
 }
 
+/// The same in a run that halts.
+fn halting(rt: HostRuntime) -> Result<Parts, Fail> {
+    match begun(rt)? {
+        Some(kept) => Ok(Parts::new(kept, Vec::new(rt.alloc()), Mode::Halt)),
+        None => Err(Fail::from("not started")),
+    }
+}
+
+/// Whether a write that strays opens nothing there.
+fn halting_opens_nothing(rt: HostRuntime) -> Result<bool, Fail> {
+    let mut parts = halting(rt)?;
+    Ok(opens_nothing(&mut parts))
+}
+
 /// A call reads its process's own bytes alone, whatever was noted.
 #[test]
 fn a_noted_stray_access_opens_nothing(rt: HostRuntime) -> Result<(), Fail> {
-    let Some(kept) = begun(rt)? else {
-        return Err(Fail::from("not started"));
-    };
-    let mut parts = Parts::new(kept, Vec::new(rt.alloc()), Mode::Halt);
-    assert!(rt; opens_nothing(&mut parts));
+    assert!(rt; halting_opens_nothing(rt)?);
     Ok(())
 }

@@ -263,15 +263,21 @@ fn other_going_on(watch: &mut Watch<'_>) -> Option<u32> {
     None
 }
 
-#[test]
-fn first_on(rt: HostRuntime) -> Result<(), Fail> {
-    let owners = table(rt.alloc())?;
-    let mut mem = memory_with(rt.alloc(), &STORING)?;
+/// The same over memory and a table of their own, and whether the second page is written then.
+fn other_going_on_in(alloc: Global) -> Result<(Option<u32>, bool), AllocError> {
+    let owners = table(alloc)?;
+    let mut mem = memory_with(alloc, &STORING)?;
     let other = {
         let mut watch = Watch::with_window(&mut mem, &owners, Mode::GoOn, window(&owners, 4032));
         other_going_on(&mut watch)
     };
     let is_written = mem.holds(BASE + 0x1000, 1) && mem.get8(BASE + 0x1000) == 5;
+    Ok((other, is_written))
+}
+
+#[test]
+fn first_on(rt: HostRuntime) -> Result<(), Fail> {
+    let (other, is_written) = other_going_on_in(rt.alloc())?;
     assert!(rt; other.is_none() && is_written, "{other:?}");
     Ok(())
 }

@@ -2,6 +2,7 @@
 
 use phys_mem::{BASE, PhysMem};
 use rv32im_table::Instr;
+use std::alloc::{AllocError, Global};
 use std::test::*;
 
 /// A change of memory.
@@ -59,14 +60,19 @@ fn has_bytes(memory: &PhysMem) -> bool {
         && memory.get(0x8000_1003, 2) == 0xff07
 }
 
-#[test]
-fn bytes_over_a_page(rt: HostRuntime) -> Result<(), Fail> {
-    let mut memory = PhysMem::new(rt.alloc(), 2)?;
+/// Whether two pages are as large as that, and have these bytes behind the changes.
+fn changes_bytes(alloc: Global) -> Result<bool, AllocError> {
+    let mut memory = PhysMem::new(alloc, 2)?;
     let is_whole = memory.pages() == 2 && memory.as_slice().len() == 8192;
     for &step in &OVER {
         change(&mut memory, step);
     }
-    assert!(rt; is_whole && has_bytes(&memory));
+    Ok(is_whole && has_bytes(&memory))
+}
+
+#[test]
+fn bytes_over_a_page(rt: HostRuntime) -> Result<(), Fail> {
+    assert!(rt; changes_bytes(rt.alloc())?);
     Ok(())
 }
 
@@ -81,12 +87,26 @@ static RANGES: [(u32, u32, bool); 7] = [
     (0x8000_0001, 0xffff_ffff, false),
 ];
 
+/// The first of them that is answered otherwise.
+fn other_range(memory: &PhysMem) -> Option<(u32, u32)> {
+    for &(at, len, want) in &RANGES {
+        if memory.holds(at, len) != want {
+            return Some((at, len));
+        }
+    }
+    None
+}
+
+/// The same of a memory of one page.
+fn other_range_in(alloc: Global) -> Result<Option<(u32, u32)>, AllocError> {
+    let memory = PhysMem::new(alloc, 1)?;
+    Ok(other_range(&memory))
+}
+
 #[test]
 fn ranges(rt: HostRuntime) -> Result<(), Fail> {
-    let memory = PhysMem::new(rt.alloc(), 1)?;
-    for &(at, len, want) in &RANGES {
-        assert!(rt; memory.holds(at, len) == want, "{at} {len}");
-    }
+    let other = other_range_in(rt.alloc())?;
+    assert!(rt; other.is_none(), "{other:?}");
     Ok(())
 }
 
@@ -139,9 +159,14 @@ fn has_instructions(memory: &mut PhysMem) -> bool {
     true
 }
 
+/// The same of a memory of one page.
+fn page_has_instructions(alloc: Global) -> Result<bool, AllocError> {
+    let mut memory = PhysMem::new(alloc, 1)?;
+    Ok(has_instructions(&mut memory))
+}
+
 #[test]
 fn instructions(rt: HostRuntime) -> Result<(), Fail> {
-    let mut memory = PhysMem::new(rt.alloc(), 1)?;
-    assert!(rt; has_instructions(&mut memory));
+    assert!(rt; page_has_instructions(rt.alloc())?);
     Ok(())
 }

@@ -24,15 +24,20 @@ static HI: [u8; 176] = [
     0x73, 0x00, 0x00, 0x00, 0x68, 0x69, 0x0a, 0x00, 0x00, 0x00, 0x00, 0x64, 0x00, 0x00, 0x00, 0x68,
 ];
 
-/// The file with some of its big-endian words changed.
-fn changed(alloc: Global, words: &[(u8, u32)]) -> Result<Vec<u8>, AllocError> {
-    let mut file = Vec::from_slice(alloc, &HI)?;
+/// Changes some big-endian words of a file.
+fn change(file: &mut [u8], words: &[(u8, u32)]) {
     for (at, word) in words {
         let at = usize::from(*at);
         if at + 4 <= file.len() {
             file[at..at + 4].copy_from_slice(&word.to_be_bytes());
         }
     }
+}
+
+/// The file with some of its words changed.
+fn changed(alloc: Global, words: &[(u8, u32)]) -> Result<Vec<u8>, AllocError> {
+    let mut file = Vec::from_slice(alloc, &HI)?;
+    change(&mut file, words);
     Ok(file)
 }
 
@@ -117,14 +122,24 @@ static AT_START: [(u32, u32); 10] = [
     (0x8000_2000, 0xffff_ffff),
 ];
 
-#[test]
-fn program_at_the_start_of_memory(rt: HostRuntime) -> Result<(), Fail> {
-    let mut mem = used_memory(rt.alloc())?;
-    let regs = load_changed(rt.alloc(), &mut mem, &[])?;
+/// A load at the start of memory: whether the program begins there, and the first address at which another word is.
+fn loads_at_start(alloc: Global, mem: &mut PhysMem) -> Result<(bool, Option<u32>), Fail> {
+    let regs = load_changed(alloc, mem, &[])?;
     let is_begun = regs == begun(0x8000_0080, 0x8000_1fe0);
     let is_there = mem.as_slice().starts_with(&HI[..168]);
-    let other = other_word(&mem, &AT_START);
-    assert!(rt; is_begun && is_there && other.is_none(), "{other:?}");
+    Ok((is_begun && is_there, other_word(mem, &AT_START)))
+}
+
+/// The same of a memory that was used before.
+fn loads_into_used(alloc: Global) -> Result<(bool, Option<u32>), Fail> {
+    let mut mem = used_memory(alloc)?;
+    loads_at_start(alloc, &mut mem)
+}
+
+#[test]
+fn program_at_the_start_of_memory(rt: HostRuntime) -> Result<(), Fail> {
+    let (is_there, other) = loads_into_used(rt.alloc())?;
+    assert!(rt; is_there && other.is_none(), "{other:?}");
     Ok(())
 }
 
@@ -134,13 +149,18 @@ static HEADER: [(u8, u32); 4] = [(24, 4095), (36, 17), (40, 7), (168, 0)];
 /// What is at their places behind a load.
 static LOADED: [(u8, u32); 3] = [(24, 4095), (36, 17), (168, 0)];
 
+/// Whether a load of the one leaves the other.
+fn loads_header(alloc: Global) -> Result<bool, Fail> {
+    let mut mem = PhysMem::new(alloc, 2)?;
+    let regs = load_changed(alloc, &mut mem, &HEADER)?;
+    let want = changed(alloc, &LOADED)?;
+    Ok(regs.is_some() && mem.as_slice().get(..172) == want.get(..172))
+}
+
 /// The header has what the file says, and the fixed words for all else. A word 0 is not linked.
 #[test]
 fn header_and_a_word_0(rt: HostRuntime) -> Result<(), Fail> {
-    let mut mem = PhysMem::new(rt.alloc(), 2)?;
-    let regs = load_changed(rt.alloc(), &mut mem, &HEADER)?;
-    let want = changed(rt.alloc(), &LOADED)?;
-    assert!(rt; regs.is_some() && mem.as_slice().get(..172) == want.get(..172));
+    assert!(rt; loads_header(rt.alloc())?);
     Ok(())
 }
 
@@ -189,38 +209,62 @@ fn loads_second(alloc: Global, regions: &mut Regions, mem: &mut PhysMem) -> Resu
         Ok(second) => second.base == 0x8000_2000 && regions.free().len() == 0,
         Err(_) => false,
     };
-    let third = load_first(alloc, regions, mem, &[])?;
-    Ok(is_second && third.err() == Some(LoadRefusal::NoRun))
+    let third = load_first(alloc, regions, mem, &[])?.err();
+    Ok(is_second && third == Some(LoadRefusal::NoRun))
+}
+
+fn loads_both(alloc: Global, regions: &mut Regions, mem: &mut PhysMem) -> Result<bool, Fail> {
+    let first = loads_first(alloc, regions, mem)?;
+    let second = loads_second(alloc, regions, mem)?;
+    Ok(first && second)
+}
+
+/// The same in a memory of four pages.
+fn loads_into_four(alloc: Global) -> Result<bool, Fail> {
+    let mut mem = PhysMem::new(alloc, 4)?;
+    let mut regions = Regions::new(alloc, 4)?;
+    loads_both(alloc, &mut regions, &mut mem)
 }
 
 #[test]
 fn programs_in_the_lowest_run(rt: HostRuntime) -> Result<(), Fail> {
-    let mut mem = PhysMem::new(rt.alloc(), 4)?;
-    let mut regions = Regions::new(rt.alloc(), 4)?;
-    let first = loads_first(rt.alloc(), &mut regions, &mut mem)?;
-    let second = loads_second(rt.alloc(), &mut regions, &mut mem)?;
-    assert!(rt; first && second);
+    assert!(rt; loads_into_four(rt.alloc())?);
     Ok(())
 }
 
 /// A stack of 16 bytes is too small for a frame of 20, and then nothing is taken.
 static REFUSED: [(u32, LoadRefusal); 2] = [(4096, LoadRefusal::NoRun), (16, LoadRefusal::E2big)];
 
+/// How a load of a program with a stack of so many bytes is refused, if it is.
+fn refusal_of(
+    alloc: Global,
+    regions: &mut Regions,
+    mem: &mut PhysMem,
+    stack: u32,
+) -> Result<Option<LoadRefusal>, Fail> {
+    Ok(load_first(alloc, regions, mem, &[(24, stack)])?.err())
+}
+
 fn refuses(alloc: Global, regions: &mut Regions, mem: &mut PhysMem) -> Result<bool, Fail> {
     for &(stack, refusal) in &REFUSED {
-        let loaded = load_first(alloc, regions, mem, &[(24, stack)])?;
+        let given = refusal_of(alloc, regions, mem, stack)?;
         let free = regions.free().first().copied();
-        if loaded.err() != Some(refusal) || free != Some(Run { first: 0, count: 1 }) {
+        if given != Some(refusal) || free != Some(Run { first: 0, count: 1 }) {
             return Ok(false);
         }
     }
     Ok(true)
 }
 
+/// The same in a memory of one page.
+fn one_page_refuses(alloc: Global) -> Result<bool, Fail> {
+    let mut mem = PhysMem::new(alloc, 1)?;
+    let mut regions = Regions::new(alloc, 1)?;
+    refuses(alloc, &mut regions, &mut mem)
+}
+
 #[test]
 fn refusals(rt: HostRuntime) -> Result<(), Fail> {
-    let mut mem = PhysMem::new(rt.alloc(), 1)?;
-    let mut regions = Regions::new(rt.alloc(), 1)?;
-    assert!(rt; refuses(rt.alloc(), &mut regions, &mut mem)?);
+    assert!(rt; one_page_refuses(rt.alloc())?);
     Ok(())
 }

@@ -6,6 +6,7 @@ ghost use Rattle.nommu_regions.specs.Ids.{Lives};
 use nommu_regions::{Regions, Source};
 use page_runs::{Chooser, Kind, Run, first_fit};
 use phys_mem::{BASE, PAGE, PhysMem};
+use std::alloc::{AllocError, Global};
 use std::test::*;
 
 /// A new region in the lowest run that fits; none where the memory hasn't as many pages as the regions.
@@ -68,12 +69,17 @@ fn frees_its_pages(regions: &mut Regions, memory: &mut PhysMem) -> bool {
         && memory.get32(BASE + 3 * PAGE) == 0
 }
 
+/// Whether it is so in a memory of eight pages.
+fn uses_hold(alloc: Global) -> Result<bool, AllocError> {
+    let mut memory = PhysMem::new(alloc, 8)?;
+    let mut regions = Regions::new(alloc, 8)?;
+    let keeps = keeps_its_pages(&mut regions, &mut memory);
+    Ok(keeps && frees_its_pages(&mut regions, &mut memory))
+}
+
 #[test]
 fn uses(rt: HostRuntime) -> Result<(), Fail> {
-    let mut memory = PhysMem::new(rt.alloc(), 8)?;
-    let mut regions = Regions::new(rt.alloc(), 8)?;
-    let keeps = keeps_its_pages(&mut regions, &mut memory);
-    assert!(rt; keeps && frees_its_pages(&mut regions, &mut memory));
+    assert!(rt; uses_hold(rt.alloc())?);
     Ok(())
 }
 
@@ -152,11 +158,16 @@ fn copies_go(regions: &mut Regions) -> bool {
     regions.find(3, 7, u32::MAX, u32::MAX).is_none()
 }
 
+/// Whether they come and go so in a memory of twenty pages.
+fn copies_hold(alloc: Global) -> Result<bool, AllocError> {
+    let mut memory = PhysMem::new(alloc, 20)?;
+    let mut regions = Regions::new(alloc, 20)?;
+    let come = copies_come(&mut regions, &mut memory);
+    Ok(come && copies_go(&mut regions))
+}
+
 #[test]
 fn copies(rt: HostRuntime) -> Result<(), Fail> {
-    let mut memory = PhysMem::new(rt.alloc(), 20)?;
-    let mut regions = Regions::new(rt.alloc(), 20)?;
-    let come = copies_come(&mut regions, &mut memory);
-    assert!(rt; come && copies_go(&mut regions));
+    assert!(rt; copies_hold(rt.alloc())?);
     Ok(())
 }

@@ -4,7 +4,7 @@ ghost use Rattle.std.specs.Prelude.{◌≡◌, ◌+◌, ◌≤◌, ◌<◌, ℕ,
 ghost use Rattle.page_runs.specs.Pages.{in_run, has_page};
 
 use page_runs::{Chooser, Kind, Run, Runs, best_fit, first_fit, last_fit};
-use std::alloc::Global;
+use std::alloc::{AllocError, Global};
 use std::cell::Cell;
 use std::test::*;
 
@@ -113,11 +113,16 @@ fn places(runs: &mut Runs, calls: &Cell<u32>) -> bool
     true
 }
 
+/// Whether it is so in a memory of 24 pages.
+fn placements_hold(alloc: Global) -> Result<bool, AllocError> {
+    let calls = Cell::new(0u32);
+    let mut runs = Runs::new(alloc, 24)?;
+    Ok(give_list(&mut runs) && places(&mut runs, &calls))
+}
+
 #[test]
 fn placements(rt: HostRuntime) -> Result<(), Fail> {
-    let calls = Cell::new(0u32);
-    let mut runs = Runs::new(rt.alloc(), 24)?;
-    assert!(rt; give_list(&mut runs) && places(&mut runs, &calls));
+    assert!(rt; placements_hold(rt.alloc())?);
     Ok(())
 }
 
@@ -150,21 +155,31 @@ fn merge(runs: &mut Runs) -> bool
     true
 }
 
+fn merges_hold(alloc: Global) -> Result<bool, AllocError> {
+    let mut runs = Runs::new(alloc, 24)?;
+    Ok(give_list(&mut runs) && merge(&mut runs))
+}
+
 #[test]
 fn merges(rt: HostRuntime) -> Result<(), Fail> {
-    let mut runs = Runs::new(rt.alloc(), 24)?;
-    assert!(rt; give_list(&mut runs) && merge(&mut runs));
+    assert!(rt; merges_hold(rt.alloc())?);
     Ok(())
+}
+
+/// What is taken of eight pages: nine, eight and one.
+fn taken_of_eight(alloc: Global) -> Result<[Option<u32>; 3], AllocError> {
+    let mut runs = Runs::new(alloc, 8)?;
+    let chooser = Chooser::new(Kind::First, |runs: &[Run], need: u32| first_fit(runs, need));
+    let nine = runs.take(9, &chooser);
+    let eight = runs.take(8, &chooser);
+    let one = runs.take(1, &chooser);
+    Ok([nine, eight, one])
 }
 
 /// More pages than there are.
 #[test]
 fn too_many(rt: HostRuntime) -> Result<(), Fail> {
-    let mut runs = Runs::new(rt.alloc(), 8)?;
-    let chooser = Chooser::new(Kind::First, |runs: &[Run], need: u32| first_fit(runs, need));
-    let nine = runs.take(9, &chooser);
-    let eight = runs.take(8, &chooser);
-    let one = runs.take(1, &chooser);
+    let [nine, eight, one] = taken_of_eight(rt.alloc())?;
     assert!(rt; nine.is_none() && eight == Some(0) && one.is_none());
     Ok(())
 }
