@@ -1,6 +1,5 @@
 //! The host over real files, in a folder of the test's own, and over files of which one step fails.
 
-use crate::loads::{Load, are_loaded};
 use host_io::{FolderHost, Host, HostError};
 use std::alloc::AllocError;
 use std::test::Fail;
@@ -12,20 +11,14 @@ mod kinds;
 mod names;
 mod steps;
 
-/// The path of a folder of this name, for this process alone.
-fn folder_of(rt: &HostRuntime, name: &str) -> io::Result<String> {
+/// A new folder of this name, for this process alone.
+fn make_folder(rt: &HostRuntime, name: &str) -> io::Result<String> {
     let temporary = env::temp_dir(rt)?;
     let number = process::id(rt.process());
     let folder = format!(in rt.alloc();
         "{}/host_tests-{name}-{number}",
         temporary.as_path().display()
     )?;
-    Ok(folder)
-}
-
-/// Makes that folder.
-fn make_folder(rt: &HostRuntime, name: &str) -> io::Result<String> {
-    let folder = folder_of(rt, name)?;
     fs::create_dir(rt, folder.as_str())?;
     Ok(folder)
 }
@@ -42,13 +35,14 @@ pub(crate) fn path_in(rt: &HostRuntime, folder: &str, name: &str) -> Result<Stri
 }
 
 /// Puts a file into a folder.
-fn put_file(rt: &HostRuntime, folder: &str, name: &str, bytes: &[u8]) -> io::Result<()> {
+fn put_file(rt: &HostRuntime, folder: &str, name: &str, bytes: &[u8]) -> Result<(), Fail> {
     let path = path_in(rt, folder, name)?;
-    fs::write(rt, path.as_str(), bytes)
+    fs::write(rt, path.as_str(), bytes)?;
+    Ok(())
 }
 
 /// Whether a file in a folder has these bytes.
-fn has_file(rt: &HostRuntime, folder: &str, name: &str, bytes: &[u8]) -> io::Result<bool> {
+fn has_file(rt: &HostRuntime, folder: &str, name: &str, bytes: &[u8]) -> Result<bool, Fail> {
     let path = path_in(rt, folder, name)?;
     Ok(fs::read(rt, path.as_str())?.as_slice() == bytes)
 }
@@ -65,16 +59,11 @@ fn store_in<H: Host>(
     Ok(host.store(rt.alloc(), path.as_str(), bytes))
 }
 
-/// Removes a file, which is there.
-fn remove_file(rt: &HostRuntime, folder: &str, name: &str) -> io::Result<()> {
-    let path = path_in(rt, folder, name)?;
-    fs::remove_file(rt, path.as_str())
-}
-
 /// Removes the files of these names, all of which are there.
-fn remove_files(rt: &HostRuntime, folder: &str, names: &[&str]) -> io::Result<()> {
+fn remove_files(rt: &HostRuntime, folder: &str, names: &[&str]) -> Result<(), Fail> {
     for name in names {
-        remove_file(rt, folder, name)?;
+        let path = path_in(rt, folder, name)?;
+        fs::remove_file(rt, path.as_str())?;
     }
     Ok(())
 }
@@ -88,26 +77,4 @@ fn remove_folder(rt: &HostRuntime, folder: &str) -> Result<(), Fail> {
 /// A host over the real files.
 fn real_host(rt: &HostRuntime) -> Result<FolderHost<HostRuntime>, AllocError> {
     Ok(FolderHost::new(rt.clone()?, "host_io", 7))
-}
-
-/// What that host answers to a store.
-fn store_real(
-    rt: &HostRuntime,
-    folder: &str,
-    name: &str,
-    bytes: &[u8],
-) -> Result<Result<(), HostError>, AllocError> {
-    let mut host = real_host(rt)?;
-    store_in(rt, &mut host, folder, name, bytes)
-}
-
-/// Whether loads by that host are answered so.
-fn are_really_loaded(
-    rt: &HostRuntime,
-    folder: &str,
-    content: &[u8],
-    loads: &[Load],
-) -> Result<bool, AllocError> {
-    let mut host = real_host(rt)?;
-    are_loaded(rt, &mut host, folder, content, loads)
 }

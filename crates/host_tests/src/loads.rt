@@ -8,7 +8,7 @@ use std::alloc::AllocError;
 pub(crate) type Load = (&'static str, u32, Result<Loaded, HostError>, usize);
 
 /// Whether a load of a file in a folder, with this content, is answered so.
-pub(crate) fn is_loaded<H: Host>(
+fn is_loaded<H: Host>(
     rt: &HostRuntime,
     host: &mut H,
     folder: &str,

@@ -2,10 +2,9 @@
 
 use super::broken_files::{Step, bits_of, broken_host};
 use super::{
-    are_really_loaded, has_file, make_folder, path_in, put_file, real_host, remove_file,
-    remove_files, remove_folder, store_in, store_real,
+    has_file, make_folder, path_in, put_file, real_host, remove_files, remove_folder, store_in,
 };
-use crate::loads::{Load, is_loaded};
+use crate::loads::{Load, are_loaded};
 use host_io::{Host, HostError, Loaded};
 use std::alloc::{AllocError, Global};
 use std::os::unix::fs::{PermissionsExt, symlink};
@@ -23,9 +22,9 @@ static LOADS: [Load; 6] = [
     ("/dev/null", 0, Ok(Loaded::All), 0),
 ];
 
-fn loads(rt: &HostRuntime, folder: &str) -> io::Result<bool> {
+fn loads(rt: &HostRuntime, folder: &str) -> Result<bool, Fail> {
     put_file(rt, folder, "a.flt", b"abc")?;
-    let loads = are_really_loaded(rt, folder, b"abc", &LOADS)?;
+    let loads = are_loaded(rt, &mut real_host(rt)?, folder, b"abc", &LOADS)?;
     remove_files(rt, folder, &["a.flt"])?;
     Ok(loads)
 }
@@ -38,21 +37,11 @@ static SLOW_LOADS: [(Step, Load); 4] = [
     (Step::Read, ("a.elf", 6, FAILED, 0)),
 ];
 
-/// Whether such a load is answered so.
-fn is_slowly_loaded(
-    rt: &HostRuntime,
-    folder: &str,
-    step: Step,
-    load: &Load,
-) -> Result<bool, AllocError> {
-    let mut host = broken_host(rt, step)?;
-    is_loaded(rt, &mut host, folder, b"slowly", load)
-}
-
-fn loads_slowly(rt: &HostRuntime, folder: &str) -> io::Result<bool> {
+fn loads_slowly(rt: &HostRuntime, folder: &str) -> Result<bool, Fail> {
     put_file(rt, folder, "a.elf", b"slowly")?;
     for (step, load) in &SLOW_LOADS {
-        if !is_slowly_loaded(rt, folder, *step, load)? {
+        let mut host = broken_host(rt, *step)?;
+        if !are_loaded(rt, &mut host, folder, b"slowly", &[*load])? {
             return Ok(false);
         }
     }
@@ -75,30 +64,20 @@ fn long_content(alloc: Global) -> Result<Vec<u8>, AllocError> {
     Ok(bytes)
 }
 
-fn loads_content(rt: &HostRuntime, folder: &str, content: &[u8]) -> io::Result<bool> {
+fn loads_long(rt: &HostRuntime, folder: &str, content: &[u8]) -> Result<bool, Fail> {
     put_file(rt, folder, "long", content)?;
-    let loads = are_really_loaded(rt, folder, content, &LONG_LOADS)?;
+    let loads = are_loaded(rt, &mut real_host(rt)?, folder, content, &LONG_LOADS)?;
     remove_files(rt, folder, &["long"])?;
     Ok(loads)
-}
-
-fn loads_long(rt: &HostRuntime, folder: &str) -> io::Result<bool> {
-    let content = long_content(rt.alloc())?;
-    loads_content(rt, folder, &content)
-}
-
-/// Whether all loads from a folder are answered so: the plain ones, the slow ones and the long ones.
-fn all_loads(rt: &HostRuntime, folder: &str) -> io::Result<[bool; 3]> {
-    let plain = loads(rt, folder)?;
-    let slowly = loads_slowly(rt, folder)?;
-    let long = loads_long(rt, folder)?;
-    Ok([plain, slowly, long])
 }
 
 #[test]
 fn folder_host_loads(rt: HostRuntime) -> Result<(), Fail> {
     let folder = make_folder(&rt, "loads")?;
-    let [plain, slowly, long] = all_loads(&rt, &folder)?;
+    let content = long_content(rt.alloc())?;
+    let plain = loads(&rt, &folder)?;
+    let slowly = loads_slowly(&rt, &folder)?;
+    let long = loads_long(&rt, &folder, &content)?;
     assert!(rt; plain && slowly && long, "{plain} {slowly} {long}");
     remove_folder(&rt, &folder)
 }
@@ -115,43 +94,40 @@ static STORES: [(&str, &[u8], Result<(), HostError>); 7] = [
 ];
 
 /// Makes a link in a folder.
-fn put_link(rt: &HostRuntime, folder: &str, target: &str, name: &str) -> io::Result<()> {
+fn put_link(rt: &HostRuntime, folder: &str, target: &str, name: &str) -> Result<(), Fail> {
     let path = path_in(rt, folder, name)?;
-    symlink(rt, target, path.as_str())
+    symlink(rt, target, path.as_str())?;
+    Ok(())
 }
 
 /// Makes a file, a link to it, and a link to none.
-fn put_links(rt: &HostRuntime, folder: &str) -> io::Result<()> {
+fn put_links(rt: &HostRuntime, folder: &str) -> Result<(), Fail> {
     put_file(rt, folder, "a.flt", b"old, and longer")?;
     let file = path_in(rt, folder, "a.flt")?;
     put_link(rt, folder, &file, "link")?;
     put_link(rt, folder, "none", "dangling")
 }
 
-fn is_link(rt: &HostRuntime, folder: &str, name: &str) -> io::Result<bool> {
+fn is_link(rt: &HostRuntime, folder: &str, name: &str) -> Result<bool, Fail> {
     let path = path_in(rt, folder, name)?;
     Ok(fs::symlink_metadata(rt, path.as_str())?.is_symlink())
 }
 
-/// Whether a host answers stores so.
-fn are_stored<H: Host>(rt: &HostRuntime, host: &mut H, folder: &str) -> Result<bool, AllocError> {
+/// Whether stores are answered so.
+fn are_stored(rt: &HostRuntime, folder: &str) -> Result<bool, Fail> {
+    let mut host = real_host(rt)?;
     for (name, bytes, want) in &STORES {
-        if store_in(rt, host, folder, name, bytes)? != *want {
+        if store_in(rt, &mut host, folder, name, bytes)? != *want {
             return Ok(false);
         }
     }
     Ok(true)
 }
 
-fn are_really_stored(rt: &HostRuntime, folder: &str) -> Result<bool, AllocError> {
-    let mut host = real_host(rt)?;
-    are_stored(rt, &mut host, folder)
-}
-
 /// Whether the file has other bytes then, and the links are as they were.
-fn stores(rt: &HostRuntime, folder: &str) -> io::Result<bool> {
+fn stores(rt: &HostRuntime, folder: &str) -> Result<bool, Fail> {
     put_links(rt, folder)?;
-    let holds = are_really_stored(rt, folder)?
+    let holds = are_stored(rt, folder)?
         && has_file(rt, folder, "a.flt", b"newer")?
         && has_file(rt, folder, "link", b"newer")?
         && is_link(rt, folder, "dangling")?;
@@ -162,12 +138,6 @@ fn stores(rt: &HostRuntime, folder: &str) -> io::Result<bool> {
 /// A file's access bits before a store, and behind it.
 type Bits = (u32, u32);
 
-/// Gives a file access bits: whether it has them then.
-fn set_bits(rt: &HostRuntime, file: &str, bits: u32) -> io::Result<bool> {
-    fs::set_permissions(rt, file, fs::Permissions::from_mode(bits))?;
-    Ok(bits_of(rt, file)? == bits)
-}
-
 /// Stores bytes over a file with access bits, in turn: whether it has those behind each that it has to.
 fn keeps_bits<H: Host>(
     rt: &HostRuntime,
@@ -176,10 +146,11 @@ fn keeps_bits<H: Host>(
     bytes: &[u8],
     rows: &[Bits],
 ) -> io::Result<bool> {
-    for &(before, after) in rows {
-        let are_set = set_bits(rt, file, before)?;
-        let is_stored = host.store(rt.alloc(), file, bytes).is_ok();
-        if !are_set || !is_stored || bits_of(rt, file)? != after {
+    for (before, after) in rows {
+        fs::set_permissions(rt, file, fs::Permissions::from_mode(*before))?;
+        let are_set = bits_of(rt, file)? == *before;
+        let answer = host.store(rt.alloc(), file, bytes);
+        if !are_set || answer != Ok(()) || bits_of(rt, file)? != *after {
             return Ok(false);
         }
     }
@@ -198,39 +169,23 @@ static PRIVATE_BITS: [Bits; 4] = [
     (0o755, 0o755),
 ];
 
-fn keeps_real_bits(rt: &HostRuntime, file: &str) -> io::Result<bool> {
-    let mut host = real_host(rt)?;
-    keeps_bits(rt, &mut host, file, b"", &BITS)
-}
-
-fn keeps_private_bits(rt: &HostRuntime, file: &str) -> io::Result<bool> {
-    let mut host = broken_host(rt, Step::Leak)?;
-    keeps_bits(rt, &mut host, file, b"newer", &PRIVATE_BITS)
-}
-
-fn keeps_bits_in(rt: &HostRuntime, folder: &str) -> io::Result<bool> {
-    let file = path_in(rt, folder, "a.flt")?;
-    Ok(keeps_real_bits(rt, &file)? && keeps_private_bits(rt, &file)?)
-}
-
-fn keeps_all_bits(rt: &HostRuntime, folder: &str) -> io::Result<bool> {
+fn keeps_all_bits(rt: &HostRuntime, folder: &str) -> Result<bool, Fail> {
     put_file(rt, folder, "a.flt", b"old")?;
-    let keeps = keeps_bits_in(rt, folder)?;
+    let file = path_in(rt, folder, "a.flt")?;
+    let real = keeps_bits(rt, &mut real_host(rt)?, &file, b"", &BITS)?;
+    let mut host = broken_host(rt, Step::Leak)?;
+    let private = keeps_bits(rt, &mut host, &file, b"newer", &PRIVATE_BITS)?;
     remove_files(rt, folder, &["a.flt"])?;
-    Ok(keeps)
-}
-
-/// The bits of a file in a folder.
-fn bits_in(rt: &HostRuntime, folder: &str, name: &str) -> io::Result<u32> {
-    let path = path_in(rt, folder, name)?;
-    bits_of(rt, &path)
+    Ok(real && private)
 }
 
 /// Whether a new file has the bits of any.
-fn gives_bits(rt: &HostRuntime, folder: &str) -> io::Result<bool> {
+fn gives_bits(rt: &HostRuntime, folder: &str) -> Result<bool, Fail> {
     put_file(rt, folder, "other", b"x")?;
-    let is_stored = store_real(rt, folder, "new.flt", b"x")?.is_ok();
-    let holds = is_stored && bits_in(rt, folder, "new.flt")? == bits_in(rt, folder, "other")?;
+    let other = path_in(rt, folder, "other")?;
+    let new = path_in(rt, folder, "new.flt")?;
+    let answer = real_host(rt)?.store(rt.alloc(), new.as_str(), b"x");
+    let holds = answer == Ok(()) && bits_of(rt, &new)? == bits_of(rt, &other)?;
     remove_files(rt, folder, &["new.flt", "other"])?;
     Ok(holds)
 }
@@ -240,58 +195,46 @@ const FIRST_LEFT: u32 = 7;
 
 const END_LEFT: u32 = 2507;
 
-fn left_name(alloc: Global, number: u32) -> Result<String, AllocError> {
-    format!(in alloc; ".host_io-{number}.tmp")
+fn left_name(rt: &HostRuntime, folder: &str, number: u32) -> io::Result<String> {
+    Ok(format!(in rt.alloc(); "{folder}/.host_io-{number}.tmp")?)
 }
 
 fn leave_files(rt: &HostRuntime, folder: &str) -> io::Result<()> {
     for number in FIRST_LEFT..END_LEFT {
-        let left = left_name(rt.alloc(), number)?;
-        put_file(rt, folder, &left, b"left")?;
+        let left = left_name(rt, folder, number)?;
+        fs::write(rt, left.as_str(), b"left")?;
     }
     Ok(())
-}
-
-/// Removes one of these files, and says whether it was as it had been left.
-fn take_one(rt: &HostRuntime, folder: &str, number: u32) -> io::Result<bool> {
-    let left = left_name(rt.alloc(), number)?;
-    let is_left = has_file(rt, folder, &left, b"left")?;
-    remove_file(rt, folder, &left)?;
-    Ok(is_left)
 }
 
 /// Removes these files, and says whether they were as they had been left.
 fn take_left(rt: &HostRuntime, folder: &str) -> io::Result<bool> {
     let mut are_left = true;
     for number in FIRST_LEFT..END_LEFT {
-        are_left = take_one(rt, folder, number)? && are_left;
+        let left = left_name(rt, folder, number)?;
+        are_left = are_left && fs::read(rt, left.as_str())?.as_slice() == b"left".as_slice();
+        fs::remove_file(rt, left.as_str())?;
     }
     Ok(are_left)
 }
 
 /// Whether a store takes a number that no other run left, and leaves what those left.
-fn leaves_others(rt: &HostRuntime, folder: &str) -> io::Result<bool> {
+fn leaves_others(rt: &HostRuntime, folder: &str) -> Result<bool, Fail> {
     leave_files(rt, folder)?;
-    let is_stored = store_real(rt, folder, "a.flt", b"new")?.is_ok();
+    let answer = store_in(rt, &mut real_host(rt)?, folder, "a.flt", b"new")?;
     let is_new = has_file(rt, folder, "a.flt", b"new")?;
     let are_left = take_left(rt, folder)?;
     remove_files(rt, folder, &["a.flt"])?;
-    Ok(is_stored && is_new && are_left)
-}
-
-/// Whether all stores into a folder do what they have to.
-fn all_stores(rt: &HostRuntime, folder: &str) -> io::Result<[bool; 4]> {
-    let stores = stores(rt, folder)?;
-    let keeps = keeps_all_bits(rt, folder)?;
-    let gives = gives_bits(rt, folder)?;
-    let leaves = leaves_others(rt, folder)?;
-    Ok([stores, keeps, gives, leaves])
+    Ok(answer == Ok(()) && is_new && are_left)
 }
 
 #[test]
 fn folder_host_stores(rt: HostRuntime) -> Result<(), Fail> {
     let folder = make_folder(&rt, "stores")?;
-    let [stores, keeps, gives, leaves] = all_stores(&rt, &folder)?;
+    let stores = stores(&rt, &folder)?;
+    let keeps = keeps_all_bits(&rt, &folder)?;
+    let gives = gives_bits(&rt, &folder)?;
+    let leaves = leaves_others(&rt, &folder)?;
     assert!(rt;
         stores && keeps && gives && leaves,
         "{stores} {keeps} {gives} {leaves}"

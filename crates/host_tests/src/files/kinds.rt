@@ -39,30 +39,14 @@ fn is_loaded_at<H: Host>(
     Ok(answer == want && into.as_slice() == bytes)
 }
 
-/// Whether these bytes can be read.
-fn gives_piped(reader: &mut PipeReader) -> io::Result<bool> {
+/// Whether the bytes of two stores into a pipe are taken, and the first ones can be read.
+fn takes_stores(rt: &HostRuntime, number: i32, reader: &mut PipeReader) -> Result<bool, Fail> {
+    let mut host = real_host(rt)?;
+    let first = store_at(rt.alloc(), &mut host, number, b"piped")?;
     let mut taken = [0u8; 5];
     reader.read_exact(&mut taken)?;
-    Ok(taken.as_slice() == b"piped".as_slice())
-}
-
-/// Whether the bytes of two stores into a pipe are taken, and the first ones can be read.
-fn takes_both<H: Host>(
-    alloc: Global,
-    host: &mut H,
-    number: i32,
-    reader: &mut PipeReader,
-) -> io::Result<bool> {
-    let first = store_at(alloc, host, number, b"piped")?.is_ok();
-    let piped = gives_piped(reader)?;
-    let second = store_at(alloc, host, number, b"again")?.is_ok();
-    Ok(first && piped && second)
-}
-
-/// The same of a host over the real files.
-fn takes_stores(rt: &HostRuntime, number: i32, reader: &mut PipeReader) -> io::Result<bool> {
-    let mut host = real_host(rt)?;
-    takes_both(rt.alloc(), &mut host, number, reader)
+    let second = store_at(rt.alloc(), &mut host, number, b"again")?;
+    Ok(first == Ok(()) && taken.as_slice() == b"piped".as_slice() && second == Ok(()))
 }
 
 /// Whether the second ones are loaded.

@@ -3,7 +3,6 @@
 use super::broken_files::{Names, named_host};
 use super::{make_folder, path_in, remove_files, remove_folder};
 use host_io::Host;
-use std::alloc::AllocError;
 use std::test::Fail;
 
 /// A target, its folder, and the new file beside it.
@@ -16,22 +15,16 @@ static ROWS: [Row; 4] = [
     ("/d/e/a.flt", "/d/e", "/d/e/.host_io-7.tmp"),
 ];
 
-/// The names of a row, of which each is the file `written` of a folder.
-fn names_of(rt: &HostRuntime, made: &str, row: &Row) -> Result<Names, AllocError> {
+/// Whether a store opens these names and no others.
+fn is_named(rt: &HostRuntime, made: &str, row: &Row) -> Result<bool, Fail> {
     let (target, folder, beside) = *row;
-    Ok(Names {
+    let names = Names {
         written: path_in(rt, made, "written")?,
         folder,
         beside,
         target,
-    })
-}
-
-/// Whether a store opens these names and no others.
-fn is_named(rt: &HostRuntime, made: &str, row: &Row) -> Result<bool, AllocError> {
-    let names = names_of(rt, made, row)?;
-    let mut host = named_host(rt, names)?;
-    Ok(host.store(rt.alloc(), row.0, b"new").is_ok())
+    };
+    Ok(named_host(rt, names)?.store(rt.alloc(), target, b"new") == Ok(()))
 }
 
 #[test]

@@ -3,8 +3,6 @@
 use super::broken_files::{Step, broken_host};
 use super::{has_file, make_folder, remove_files, remove_folder, store_in};
 use host_io::HostError;
-use std::alloc::AllocError;
-use std::io;
 use std::test::Fail;
 
 /// What is broken, the name and the bytes of a store, its answer, and a file and its bytes then.
@@ -67,22 +65,10 @@ static STORES: [Row; 18] = [
     ),
 ];
 
-/// What a host of which this step fails answers to a store.
-fn store_broken(
-    rt: &HostRuntime,
-    step: Step,
-    folder: &str,
-    name: &str,
-    bytes: &[u8],
-) -> Result<Result<(), HostError>, AllocError> {
-    let mut host = broken_host(rt, step)?;
-    store_in(rt, &mut host, folder, name, bytes)
-}
-
 /// Whether a store is answered so, and leaves these bytes.
-fn is_stored(rt: &HostRuntime, folder: &str, row: &Row) -> io::Result<bool> {
+fn is_stored(rt: &HostRuntime, folder: &str, row: &Row) -> Result<bool, Fail> {
     let (step, name, bytes, want, (file, left)) = row;
-    let answer = store_broken(rt, *step, folder, name, bytes)?;
+    let answer = store_in(rt, &mut broken_host(rt, *step)?, folder, name, bytes)?;
     Ok(answer == *want && has_file(rt, folder, file, left)?)
 }
 

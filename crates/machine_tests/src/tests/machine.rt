@@ -1,20 +1,15 @@
 //! A machine runs up to the end of its quanta, and then to that of its program; and one that has ended at a stray access stays there.
 
-ghost use Rattle.std.specs.Prelude.{map, IfOk};
-ghost use Rattle.std.specs.List.{AllByRecursion};
-ghost use Rattle.machine_world.specs.Ages.{AreChanged};
-ghost use Rattle.manifest_text.specs.Values.{item_value, manifest_value};
-ghost use Rattle.manifest_text.specs.Laws.{IsItem, Reasonable};
-ghost use Rattle.run_setup.specs.Making.{HasPaths};
+ghost use Rattle.manifest_text.specs.Values.{manifest_value};
+ghost use Rattle.manifest_text.specs.Laws.{Reasonable};
 
 use flat_machine::{End, Machine, Setup};
-use manifest_text::{Item, Manifest, read};
+use manifest_text::{Manifest, read};
 use page_runs::{Chooser, Kind, Run, first_fit};
 use quantum_sched::Quantum;
 use region_watch::Mode;
-use run_setup::{RunFiles, bring};
+use run_setup::bring;
 use rv32im_step::{Access, AccessKind};
-use std::alloc::Global;
 use std::test::*;
 
 /// A flat file whose program writes `hi` with its first six instructions, and exits with the answer by two more: a text of 64 bytes, of
@@ -33,41 +28,31 @@ static GREETING: [u8; 128] = [
 /// The address of what it writes.
 const WRITTEN: u32 = 0x8000_0060;
 
-/// What the lines of a manifest with one file bring in, which is this.
-fn brought(alloc: Global, items: &[Item], file: &[u8]) -> Result<RunFiles, Fail>
-    requires { AllByRecursion IsItem (map item_value items.now) }
-    ensures paths { IfOk result HasPaths }
-    ensures unchanged { IfOk result (λ run. AreChanged 0 run.tree) }
-{
-    let files = vec![in alloc; Vec::from_slice(alloc, file)?]?;
-    if files.len() != items.len() {
-        return Err(Fail::from("not one file"));
-    }
-    match bring(alloc, items, files) {
-        Ok(run) => Ok(run),
-        Err(_) => Err(Fail::from("not brought in")),
-    }
-}
-
 /// A machine that has started the one program of a manifest, which is this file's.
-fn booted(alloc: Global, manifest: Manifest, file: &[u8]) -> Result<Machine, Fail>
+fn booted(rt: HostRuntime, manifest: Manifest, file: &[u8]) -> Result<Machine, Fail>
     requires { Reasonable (manifest_value manifest) }
 {
-    let files = brought(alloc, &manifest.items, file)?;
-    let setup = Setup {
-        pages: manifest.pages,
-        tree: files.tree,
-        paths: files.paths,
-        programs: files.flats,
-        starts: manifest.starts,
-        stdin: files.stdin,
-        mode: Mode::Halt,
-        keep: 0,
+    let files = vec![in rt.alloc(); Vec::from_slice(rt.alloc(), file)?]?;
+    if files.len() != manifest.items.len() {
+        return Err(Fail::from("not one file"));
+    }
+    let Ok(brought) = bring(rt.alloc(), &manifest.items, files) else {
+        return Err(Fail::from("not brought in"));
     };
     let chooser = Chooser::new(Kind::First, |runs: &[Run], need: u32| {
         first_fit(runs, need)
     });
-    match Machine::boot(alloc, setup, &chooser) {
+    let setup = Setup {
+        pages: manifest.pages,
+        tree: brought.tree,
+        paths: brought.paths,
+        programs: brought.flats,
+        starts: manifest.starts,
+        stdin: brought.stdin,
+        mode: Mode::Halt,
+        keep: 0,
+    };
+    match Machine::boot(rt.alloc(), setup, &chooser) {
         Ok(machine) => Ok(machine),
         Err(_) => Err(Fail::from("not booted")),
     }
@@ -104,7 +89,7 @@ fn machine_of(rt: HostRuntime, file: &[u8]) -> Result<Machine, Fail> {
     ) else {
         return Err(Fail::from("not read"));
     };
-    booted(rt.alloc(), manifest, file)
+    booted(rt, manifest, file)
 }
 
 /// Whether the own bytes of process 1 at what it writes are these; None where they aren't its own.

@@ -2,17 +2,15 @@
 use super::*;
 use std::cell::Cell;
 
-/// How often the closures of First, Best, Last, Touch and Within are asked in a call, and whether it ends as Done.
-type Asked = ([u32; 5], bool);
-
-/// A call over this host and these sinks.
+/// How often the closures of First, Best, Last, Touch and Within are asked in this call, and whether it ends as Done.
 fn asked_in(
     alloc: Global,
-    arguments: &[String],
+    words: &[&str],
     host: &mut MemHost,
-    out: &mut MemSink,
-    report: &mut MemSink,
-) -> Asked {
+) -> Result<([u32; 5], bool), AllocError> {
+    let arguments = arguments_of(alloc, words)?;
+    let mut out = MemSink::new(alloc)?;
+    let mut report = MemSink::new(alloc)?;
     let first = Cell::new(0u32);
     let best = Cell::new(0u32);
     let last = Cell::new(0u32);
@@ -42,29 +40,25 @@ fn asked_in(
             within(spans, addr, len)
         }),
     };
-    let status = suite(alloc, arguments, host, out, report, &place, &points);
-    let asked = [
-        first.get(),
-        best.get(),
-        last.get(),
-        touch.get(),
-        inside.get(),
-    ];
-    (asked, status == Status::Done)
-}
-
-/// The same with sinks of its own.
-fn asked_by(alloc: Global, host: &mut MemHost, words: &[&str]) -> Result<Asked, AllocError> {
-    let arguments = arguments_of(alloc, words)?;
-    let mut out = MemSink::new(alloc)?;
-    let mut report = MemSink::new(alloc)?;
-    Ok(asked_in(alloc, &arguments, host, &mut out, &mut report))
-}
-
-/// The same over a host with this manifest.
-fn asked_of(alloc: Global, manifest: &str, words: &[&str]) -> Result<Asked, AllocError> {
-    let mut host = host_with_files(alloc, manifest)?;
-    asked_by(alloc, &mut host, words)
+    let status = suite(
+        alloc,
+        &arguments,
+        host,
+        &mut out,
+        &mut report,
+        &place,
+        &points,
+    );
+    Ok((
+        [
+            first.get(),
+            best.get(),
+            last.get(),
+            touch.get(),
+            inside.get(),
+        ],
+        status == Status::Done,
+    ))
 }
 
 /// Three starts, of which each asks the closure of its placement, and no other; and so the 64 of the demo.
@@ -73,12 +67,13 @@ fn the_given_closure_is_asked(rt: HostRuntime) -> Result<(), Fail> {
     let alloc = rt.alloc();
     let manifest =
         "memory 6\nelf /hi hi.elf\nstart /hi\nstart /hi\nstart /hi\nquanta 0:100 0:100 0:100\n";
-    let (last, done) = asked_of(alloc, manifest, &["run", "m", "--place", "last"])?;
+    let mut host = host_with_files(alloc, manifest)?;
+    let (last, done) = asked_in(alloc, &["run", "m", "--place", "last"], &mut host)?;
     assert!(rt;
         done && last[0] == 0 && last[1] == 0 && last[2] >= 3,
         "{last:?}"
     );
-    let (first, done) = asked_of(alloc, manifest, &["demo", "64"])?;
+    let (first, done) = asked_in(alloc, &["demo", "64"], &mut host)?;
     assert!(rt;
         done && first[0] >= 64 && first[1] == 0 && first[2] == 0,
         "{first:?}"
@@ -91,11 +86,12 @@ fn the_given_closure_is_asked(rt: HostRuntime) -> Result<(), Fail> {
 fn the_given_watch_point_is_asked(rt: HostRuntime) -> Result<(), Fail> {
     let alloc = rt.alloc();
     let manifest = "memory 4\nelf /hi hi.elf\nstart /hi\nquanta 0:100\nwatch 0x800000a8 4\n";
-    let (touch, done) = asked_of(alloc, manifest, &["run", "m", "--watch", "touch"])?;
+    let mut host = host_with_files(alloc, manifest)?;
+    let (touch, done) = asked_in(alloc, &["run", "m", "--watch", "touch"], &mut host)?;
     assert!(rt; done && touch[3] >= 1 && touch[4] == 0, "{touch:?}");
-    let (inside, done) = asked_of(alloc, manifest, &["run", "m", "--watch", "within"])?;
+    let (inside, done) = asked_in(alloc, &["run", "m", "--watch", "within"], &mut host)?;
     assert!(rt; done && inside[3] == 0 && inside[4] >= 1, "{inside:?}");
-    let (none, done) = asked_of(alloc, manifest, &["run", "m"])?;
+    let (none, done) = asked_in(alloc, &["run", "m"], &mut host)?;
     assert!(rt; done && none[3] == 0 && none[4] == 0, "{none:?}");
     Ok(())
 }

@@ -121,26 +121,6 @@ fn has_taken(sink: &MemSink, text: &str, most: u32, writes: usize) -> bool {
     sink.bytes().len() == taken && text.as_bytes().starts_with(sink.bytes())
 }
 
-/// Whether the flat file is stored, and as it has to be, or isn't.
-fn has_stored(host: &MemHost, stores: bool) -> bool {
-    let stored = host.get("a.flt");
-    stored.is_some() == stores && stored.is_none_or(|bytes| bytes == ONE_WORD_FLAT.as_slice())
-}
-
-/// Whether a call over these sinks ends with this status, and its file stored.
-fn ends_with(
-    alloc: Global,
-    call: &Call,
-    out: &mut MemSink,
-    report: &mut MemSink,
-    status: Status,
-) -> Result<bool, AllocError> {
-    let mut host = host_with_files(alloc, MANIFEST)?;
-    host.fail_at(call.host_fails)?;
-    let given = call_suite(alloc, call.words, &mut host, out, report)?;
-    Ok(given == status && has_stored(&host, call.stores))
-}
-
 /// Whether a call ends as it has to where this write of all fails: with what was taken before it, and the flat file stored.
 fn is_told(alloc: Global, call: &Call, most: u32, write: usize) -> Result<bool, AllocError>
     requires { 0 < most }
@@ -148,17 +128,23 @@ fn is_told(alloc: Global, call: &Call, most: u32, write: usize) -> Result<bool, 
     let of_out = writes_of(call.out, most);
     let writes = of_out.saturating_add(writes_of(call.report, most));
     let in_report = write.checked_sub(of_out);
+    let mut out = sink_of(alloc, most, Some(write))?;
+    let mut report = sink_of(alloc, most, in_report)?;
+    let mut host = host_with_files(alloc, MANIFEST)?;
+    host.fail_at(call.host_fails)?;
+    let status = call_suite(alloc, call.words, &mut host, &mut out, &mut report)?;
     let want = if write < writes {
         Status::SinkWrite
     } else {
         call.status
     };
-    let mut out = sink_of(alloc, most, Some(write))?;
-    let mut report = sink_of(alloc, most, in_report)?;
-    let ends = ends_with(alloc, call, &mut out, &mut report, want)?;
+    let stored = host.get("a.flt");
     Ok(
-        ends && has_taken(&out, call.out, most, write)
-            && has_taken(&report, call.report, most, in_report.unwrap_or(0)),
+        status == want
+            && has_taken(&out, call.out, most, write)
+            && has_taken(&report, call.report, most, in_report.unwrap_or(0))
+            && stored.is_some() == call.stores
+            && stored.is_none_or(|bytes| bytes == ONE_WORD_FLAT.as_slice()),
     )
 }
 
