@@ -121,3 +121,19 @@ pub record TreeKeepsCounts : Type 0 where
   pub unlink : (path : List ℕ) (dir : Bool) → KeepsCounts (λ nodes. tree.unlinked nodes path dir)
   pub write : (id at : ℕ) (bytes : List ℕ) → KeepsCounts (λ nodes. tree.written nodes id at bytes)
   pub truncate : (id : ℕ) → KeepsCounts (λ nodes. Ok (tree.truncated nodes id))
+
+-- each call of descriptors and change of the tree keeps the counts
+pub record CallsKeepCounts : Type 0 where
+  pub opens : OpeningKeepsCounts
+  pub pipes : PipingKeepsCounts
+  pub moves_bytes : PipesKeepCounts
+  pub closes : ClosingKeepsCounts
+  pub duplicates : DuplicatingKeepsCounts
+  pub replaces : ReplacingKeepsCounts
+  pub moves : MovingKeepsCounts
+  pub takes : TakingKeepsCounts
+  pub makes_table : NewTableKeepsCounts
+  pub copies_table : CopyKeepsCounts
+  pub closes_at_exec : ExecKeepsCounts
+  pub drops_table : DroppingKeepsCounts
+  pub tree_changes : TreeKeepsCounts
