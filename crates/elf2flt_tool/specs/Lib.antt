@@ -2,6 +2,7 @@
 -- Image: the bytes of an ELF file, relocated at a base.
 -- Word: the recorded words, where they point and what they meet.
 -- Fault: the first reason why a file isn't converted.
+-- Faults: every reason.
 -- Converted: the flat file that a file is converted to.
 -- Same: when two files say the same to the converter.
 -- Laws: what is written has no fault, and loads to the bytes of the ELF file, relocated.
@@ -12,6 +13,7 @@ pub mod Image
 pub mod Word
 pub mod Cover
 pub mod Fault
+pub mod Faults
 pub mod Walk
 pub mod Slides
 pub mod Converted
