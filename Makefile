@@ -1,7 +1,8 @@
 # make            the proved program, at build/flatc; what the proof says is in build/check.log
 # make try        a first look: runs the program's demo without any proof ('proved=no'); it isn't kept, and isn't for use
 # make demo       the main job: converts the shipped ELF file and shows the bytes of the flat file, and runs two programs in one memory
-# make check      the gate: every proof, must-fail edit, test, program and case, and the repository's papers
+# make check      the gate: every proof, must-fail edit, test, program and case, and the repository's papers, over a copy of the tree
+#                 without what was built in it
 # make cases      tries the cases with the built program
 # make papers     the papers alone: names, links, paths and exit statuses agree
 # make kit        compares the toolchain with the one that the proofs were checked with
@@ -32,7 +33,7 @@ demo: build/flatc
 	cd build && ./flatc demo 2
 
 check:
-	.ci/run
+	tools/check
 
 cases: build/flatc
 	tools/make-caller --check

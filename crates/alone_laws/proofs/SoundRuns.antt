@@ -43,7 +43,7 @@ use Rattle.machine_world.specs.MapCalls.{all_maps, unmaps, munmap_row}
 use Rattle.machine_world.specs.Rows.{row}
 use Rattle.machine_world.specs.Recordings.{room_in}
 use Rattle.machine_world.specs.Event.{Outcome, went, strays, full, idle, number_of, args_of, replied, entry_of, exit_code, noted, put_got, room_for, stepped, trapped, ended, served, put, waited, answered, exited, is_exit, reaped, told_in, waitid_behind, waitid, forked, cloned, load_of, executed, exec_at, exec_program, exec_strings, exec, classed, asked, ask_of, answer, settled, effect, in_space, by_process, at_process, event}
-use Rattle.machine_world.specs.Turns.{Walk, End, traced, remains_at, turned, turn, seen_of, going_on, quantum_turn, turns}
+use Rattle.machine_world.specs.Turns.{Walk, End, traced, remains_at, turned, turn, going_on, quantum_turn, turns}
 use Rattle.machine_world.specs.Ages.{AreChanged, Follows, most_changes, kept_calls, most_at_boot}
 use Rattle.machine_world.proofs.Kept.{Answers, kept_outside}
 use Rattle.machine_world.proofs.ByRows.{by_rows}
@@ -393,7 +393,7 @@ turned_leaves more w pid (went now t) is may h leaves on = over t.over refl
     over : (b : Bool) → t.over ≡ b → IsSound (traced t (if b then remains_at now None else more now)).world
     over true ends = leaves
     over false ends = on now leaves (may_run_still w pid now t may is ends)
-turned_leaves more w pid (strays access) is may h leaves on = stray_sound w (stray_note pid (seen_of access)) refl h
+turned_leaves more w pid (strays access) is may h leaves on = stray_sound w (stray_note pid access) refl h
 turned_leaves more w pid full is may h leaves on = h
 turned_leaves more w pid idle is may h leaves on = h
 

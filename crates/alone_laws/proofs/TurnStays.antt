@@ -1,14 +1,14 @@
 -- What every event keeps of stays and a sound world holds behind turns and runs.
 use Rattle.std.proofs.Common.{◌≡◌, ℕ, zero, suc, Bool, true, false, List, [], ◌∷◌, ◌++◌, Option, Some, None, refl, sym, subst}
 use Rattle.std.specs.Prelude.{if◌then◌else◌}
-use Rattle.call_log.specs.declared.how.Seen.{Seen}
+use Rattle.byte_words.specs.declared.access.Access.{Access}
 use Rattle.call_log.specs.Notes.{stray_note}
 use Rattle.quantum_sched.specs.declared.Quantum.{Quantum}
 use Rattle.quantum_sched.specs.Picked.{picked}
 use Rattle.machine_world.specs.World.{World}
 use Rattle.machine_world.specs.Families.{MayRun, ready_pids}
 use Rattle.machine_world.specs.Event.{Trace, Outcome, went, strays, full, idle, noted, event}
-use Rattle.machine_world.specs.Turns.{Walk, End, seen_of, traced, remains_at, turned, turn, going_on, quantum_turn, turns}
+use Rattle.machine_world.specs.Turns.{Walk, End, traced, remains_at, turned, turn, going_on, quantum_turn, turns}
 use Rattle.machine_world.proofs.Runnable.{may_run_still, ready_found}
 use Rattle.alone_laws.specs.Stays.{Stay, collect, collect_all, stays_along, kept_calls_of, loads_of, AreRight}
 use Rattle.alone_laws.specs.Sound.{IsSound}
@@ -20,7 +20,7 @@ collect_behind ys [] us = refl
 collect_behind ys (t ∷ ts) us = collect_behind (collect ys t) ts us
 
 -- a stray access is noted
-pub told_stray : (ys : List Stay) (w : World) (pid : ℕ) (seen : Seen) → AreRight ys w → AreRight ys (noted (stray_note pid seen) w)
+pub told_stray : (ys : List Stay) (w : World) (pid : ℕ) (seen : Access) → AreRight ys w → AreRight ys (noted (stray_note pid seen) w)
 unfolding kept_calls_of loads_of
 told_stray ys w pid seen right = record {
   count = right.count;
@@ -30,7 +30,7 @@ told_stray ys w pid seen right = record {
 }
 
 -- what holds of stays and a world, and stays so where a stray access is noted and behind every event
-module _ (R : List Stay → World → Type 0) (strayed : (ys : List Stay) (w : World) (pid : ℕ) (seen : Seen) → R ys w → R ys (noted (stray_note pid seen) w)) (sounds : EventsKeepSound)
+module _ (R : List Stay → World → Type 0) (strayed : (ys : List Stay) (w : World) (pid : ℕ) (seen : Access) → R ys w → R ys (noted (stray_note pid seen) w)) (sounds : EventsKeepSound)
     (rights : (ys : List Stay) (w : World) (pid : ℕ) (now : World) (t : Trace) → IsSound w → MayRun w pid → R ys w → event w pid ≡ went now t → R (collect ys t) now) where
   turned_keeps : (ys : List Stay) (more : World → Walk) (w : World) (pid : ℕ) (o : Outcome) → event w pid ≡ o → IsSound w → MayRun w pid → R ys w
       → ((zs : List Stay) (v : World) → IsSound v → MayRun v pid → R zs v → R (collect_all zs (more v).traces) (more v).world)
@@ -42,7 +42,7 @@ module _ (R : List Stay → World → Type 0) (strayed : (ys : List Stay) (w : W
           → R (collect_all ys (traced t (if b then remains_at now None else more now)).traces) (traced t (if b then remains_at now None else more now)).world
       over true ends = rights ys w pid now t sound may right is
       over false ends = on (collect ys t) now (sounds w pid now t sound may is) (may_run_still w pid now t may is ends) (rights ys w pid now t sound may right is)
-  turned_keeps ys more w pid (strays a) is sound may right on = strayed ys w pid (seen_of a) right
+  turned_keeps ys more w pid (strays a) is sound may right on = strayed ys w pid a right
   turned_keeps ys more w pid full is sound may right on = right
   turned_keeps ys more w pid idle is sound may right on = right
 

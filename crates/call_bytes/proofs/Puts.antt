@@ -21,7 +21,7 @@ use Rattle.mmap_rules.specs.Owners.{owns}
 use Rattle.region_watch.specs.Private.{only, physical}
 use Rattle.region_watch.proofs.Maps.{all_pass-at, all_pass-each, with_bytes-only, with_bytes-beside}
 use Rattle.region_watch.proofs.Accesses.{own_writable, range_parts, range_of}
-use Rattle.rv32im_step.specs.declared.access.Access.{Access}
+use Rattle.byte_words.specs.declared.access.Access.{Access}
 use Rattle.flat_loader.specs.Alone.{put_got}
 use Rattle.call_bytes.specs.Puts.{stray_range, access_at, IsRange, Put}
 use Rattle.region_watch.specs.Private.{in_pages}

@@ -1,7 +1,7 @@
 -- What a call writes into its caller's memory, range by range.
 use Rattle.std.specs.Prelude.{◌≡◌, ℕ, ◌^◌, ◌<◌, Bool, true, if◌then◌else◌, List, [], ◌∷◌, length, map, sum, Option, Some, None, Ok}
-use Rattle.rv32im_step.specs.declared.access.Access.{Access}
-use Rattle.rv32im_step.specs.declared.access.AccessKind.TheVariants.{Call}
+use Rattle.byte_words.specs.declared.access.Access.{Access}
+use Rattle.byte_words.specs.declared.access.AccessKind.TheVariants.{Call}
 use Rattle.call_log.specs.Notes.{GotRange}
 use Rattle.call_log.specs.Sent.{Span}
 use Rattle.mmap_rules.specs.declared.page_owner.PageOwner.{PageOwner}

@@ -6,9 +6,9 @@ use Rattle.std.specs.Fmt.{digits}
 use Rattle.hex.specs.Hex.{encode_lower}
 use Rattle.call_log.specs.declared.how.How.{How}
 use Rattle.call_log.specs.declared.how.How.TheVariants.{Exit, Signal}
-use Rattle.call_log.specs.declared.how.Seen.{Seen}
-use Rattle.call_log.specs.declared.how.SeenKind.{SeenKind}
-use Rattle.call_log.specs.declared.how.SeenKind.TheVariants as seen
+use Rattle.byte_words.specs.declared.access.Access.{Access}
+use Rattle.byte_words.specs.declared.access.AccessKind.{AccessKind}
+use Rattle.byte_words.specs.declared.access.AccessKind.TheVariants as access
 use Rattle.call_log.specs.Notes.{GotRange, CallEntry, LoadEntry, Note, call_note, load_note, end_note, stray_note}
 
 -- the pieces, one behind the other
@@ -58,14 +58,14 @@ how_text (Signal number) = codes "signal " ++ decimal number
 abbrev pub end_line : ℕ → How → List ℕ
 end_line pid how = joined (codes "end " ∷ decimal pid ∷ codes " " ∷ how_text how ∷ codes "\n" ∷ [])
 
-abbrev pub kind_text : SeenKind → List ℕ
-kind_text seen.Fetch = codes "fetch"
-kind_text seen.Load = codes "load"
-kind_text seen.Store = codes "store"
-kind_text seen.Call = codes "call"
+abbrev pub kind_text : AccessKind → List ℕ
+kind_text access.Fetch = codes "fetch"
+kind_text access.Load = codes "load"
+kind_text access.Store = codes "store"
+kind_text access.Call = codes "call"
 
 -- `stray PID pc 0xPC addr 0xADDR len LEN KIND`
-abbrev pub stray_line : ℕ → Seen → List ℕ
+abbrev pub stray_line : ℕ → Access → List ℕ
 stray_line pid s = joined
     (codes "stray " ∷ decimal pid ∷ codes " pc 0x" ∷ word_digits s.pc ∷ codes " addr 0x" ∷ word_digits s.addr
     ∷ codes " len " ∷ decimal s.len ∷ codes " " ∷ kind_text s.kind ∷ codes "\n" ∷ [])

@@ -1,7 +1,7 @@
 -- What the log keeps of a run, as plain values.
 use Rattle.std.specs.Prelude.{ℕ, ◌+◌, Bool, ◌&&◌, nat_le, List, map, sum, length}
 use Rattle.call_log.specs.declared.how.How.{How}
-use Rattle.call_log.specs.declared.how.Seen.{Seen}
+use Rattle.byte_words.specs.declared.access.Access.{Access}
 
 -- bytes that a call wrote into its caller's memory, from an address on
 pub record GotRange : Type 0 where
@@ -28,7 +28,7 @@ pub data Note : Type 0 where
   call_note : CallEntry → Note
   load_note : LoadEntry → Note
   end_note : ℕ → How → Note
-  stray_note : ℕ → Seen → Note
+  stray_note : ℕ → Access → Note
 
 -- the most calls, and the most sent and got bytes, that a log keeps
 abbrev pub most_calls : ℕ

@@ -17,8 +17,11 @@ pub mod numbers;
 pub use digits::{push_bytes, push_decimal, push_word};
 pub use errno::Errno;
 pub use flags::has_flag;
-pub use how::{How, Seen, SeenKind};
+pub use how::How;
 pub use laws::refusals_are_words;
-pub use lines::{push_call_head, push_got, push_line, push_sent};
+pub use lines::{kind_text, push_call_head, push_got, push_line, push_sent};
 pub use log::{Log, LogFault};
 pub use note::{Entry, Got, Note};
+
+/// An access, and what it is for, as a note has them.
+pub use byte_words::{Access as Seen, AccessKind as SeenKind};

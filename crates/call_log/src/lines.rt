@@ -7,8 +7,9 @@ ghost use Rattle.call_log.specs.Lines.{joined, word_digits, arg_text, sent_text,
 ghost use Rattle.call_log.specs.Programs.{IsProgramBelow, paths_of};
 
 use crate::digits::{push_bytes, push_decimal, push_word};
-use crate::how::{How, Seen, SeenKind};
+use crate::how::How;
 use crate::note::{Entry, Got, Note};
+use byte_words::{Access, AccessKind};
 use std::alloc::AllocError;
 
 /// The most bytes of a call's line, but for those that were sent and got.
@@ -154,7 +155,7 @@ fn push_end(text: &mut Vec<u8>, pid: u32, how: How) -> Result<(), AllocError>
 }
 
 /// `stray PID pc 0xPC addr 0xADDR len LEN KIND`
-fn push_stray(text: &mut Vec<u8>, pid: u32, access: Seen) -> Result<(), AllocError>
+fn push_stray(text: &mut Vec<u8>, pid: u32, access: Access) -> Result<(), AllocError>
     ensures { IfOk result (λ _. text.new.items ≡ text.old.items ++ stray_line pid access) }
 {
     push_number(text, b"stray ", pid)?;
@@ -162,7 +163,7 @@ fn push_stray(text: &mut Vec<u8>, pid: u32, access: Seen) -> Result<(), AllocErr
     push_hex(text, b" addr 0x", access.addr)?;
     push_number(text, b" len ", access.len)?;
     text.push(b' ')?;
-    text.extend_from_slice(kind_text(access.kind))?;
+    text.extend_from_slice(kind_text(access.kind).as_bytes())?;
     text.push(b'\n')?;
     Ok(())
 }
@@ -183,13 +184,14 @@ fn push_hex(text: &mut Vec<u8>, front: &[u8], word: u32) -> Result<(), AllocErro
     push_word(text, word)
 }
 
-fn kind_text(kind: SeenKind) -> &'static [u8]
+/// What an access is for, as its line has it.
+pub fn kind_text(kind: AccessKind) -> &'static str
     ensures { result.now ≡ kind_text kind }
 {
     match kind {
-        SeenKind::Fetch => b"fetch",
-        SeenKind::Load => b"load",
-        SeenKind::Store => b"store",
-        SeenKind::Call => b"call",
+        AccessKind::Fetch => "fetch",
+        AccessKind::Load => "load",
+        AccessKind::Store => "store",
+        AccessKind::Call => "call",
     }
 }

@@ -1,6 +1,7 @@
 //! The notes of a run.
 
-use crate::how::{How, Seen};
+use crate::how::How;
+use byte_words::Access;
 
 /// Bytes that a call wrote into its caller's memory.
 #[derive(Drop)]
@@ -49,6 +50,6 @@ pub enum Note {
     /// An access outside of a process's own bytes.
     Stray {
         pid: u32,
-        access: Seen,
+        access: Access,
     },
 }

@@ -1,6 +1,6 @@
 -- A run with `--go-on` and the same run without it.
 use Rattle.std.proofs.Common.{◌≡◌, ◌≢◌, ℕ, [], Option, Some, None, ◌⊎◌, inl, inr, refl, ap}
-use Rattle.rv32im_step.specs.declared.access.Access.{Access}
+use Rattle.byte_words.specs.declared.access.Access.{Access}
 use Rattle.machine_world.specs.Turns.{End, all_ended, stuck, out_of_quanta, stray_at, log_full, turns}
 use Rattle.memory_world.specs.Physical.{turns_in, opening_in}
 use Rattle.go_on_laws.proofs.NeverStrays.{runs_never_stray}

@@ -1,7 +1,7 @@
 -- A run that goes on, by the law that it is the run of private spaces up to its first stray access.
 use Rattle.std.proofs.Common.{◌≡◌, ◌≢◌, ℕ, List, Option, Some, None, Result, Ok, Err, refl, sym, ap, subst, ◌∙◌}
 use Rattle.byte_words.specs.ByteMap.{Bytes}
-use Rattle.rv32im_step.specs.declared.access.Access.{Access}
+use Rattle.byte_words.specs.declared.access.Access.{Access}
 use Rattle.call_log.specs.Sent.{Span, read_span}
 use Rattle.mmap_rules.specs.Space.{own_in}
 use Rattle.region_watch.specs.Private.{only}

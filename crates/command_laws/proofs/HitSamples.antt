@@ -2,8 +2,8 @@
 use Rattle.std.proofs.Common.{◌≡◌, ℕ, Bool, true, false, List, [], ◌∷◌, ◌++◌, Some, None, refl}
 use Rattle.std.specs.Prelude.{codes}
 use Rattle.std.specs.Fmt.{digits}
-use Rattle.rv32im_step.specs.declared.access.AccessKind.{AccessKind}
-use Rattle.rv32im_step.specs.declared.access.AccessKind.TheVariants.{Fetch, Load, Store}
+use Rattle.byte_words.specs.declared.access.AccessKind.{AccessKind}
+use Rattle.byte_words.specs.declared.access.AccessKind.TheVariants.{Fetch, Load, Store}
 use Rattle.rv32im_step.specs.Asked.{Asked}
 use Rattle.manifest_text.specs.declared.manifest.WatchLine.{WatchLine}
 use Rattle.watch_points.specs.declared.point.PointKind.{PointKind}

@@ -1,6 +1,6 @@
 -- The hits of a run that goes on, beside those of the run of private spaces.
 use Rattle.std.specs.Prelude.{◌≡◌, ◌≢◌, ℕ, false, List, Some}
-use Rattle.rv32im_step.specs.declared.access.Access.{Access}
+use Rattle.byte_words.specs.declared.access.Access.{Access}
 use Rattle.quantum_sched.specs.declared.Quantum.{Quantum}
 use Rattle.machine_world.specs.World.{World}
 use Rattle.machine_world.specs.Turns.{stray_at, turns}

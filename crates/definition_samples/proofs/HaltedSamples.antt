@@ -1,10 +1,8 @@
 -- Where a run has ended that ends at its first stray access, and which bytes a block has.
 use Rattle.std.proofs.Common.{◌≡◌, true, false, Some, None, Ok, [], ◌∷◌, map, refl, ap, arith}
-use Rattle.rv32im_step.specs.declared.access.Access.{Access}
-use Rattle.rv32im_step.specs.declared.access.AccessKind.TheVariants as access
+use Rattle.byte_words.specs.declared.access.Access.{Access}
+use Rattle.byte_words.specs.declared.access.AccessKind.TheVariants as access
 use Rattle.call_log.specs.declared.how.How.TheVariants.{Exit}
-use Rattle.call_log.specs.declared.how.Seen.{Seen}
-use Rattle.call_log.specs.declared.how.SeenKind.TheVariants as seen
 use Rattle.call_log.specs.Notes.{LoadEntry, load_note, end_note, stray_note}
 use Rattle.region_watch.specs.declared.mode.Mode.TheVariants.{Halt, GoOn}
 use Rattle.syscall_layer.specs.Parts.{halted_at}
@@ -12,11 +10,11 @@ use Rattle.kept_parts.specs.Starts.{in_block_of}
 use Rattle.flat_machine.specs.declared.run.End.TheVariants as told
 use Rattle.flat_machine.specs.RunsIn.{TellsAccess}
 
-abbrev store : Seen
-store = record { pc = 0x8000_0040; addr = 0x8000_2000; len = 4; kind = seen.Store }
+abbrev store : Access
+store = record { pc = 0x8000_0040; addr = 0x8000_2000; len = 4; kind = access.Store }
 
-abbrev later : Seen
-later = record { pc = 0x8000_0044; addr = 0; len = 1; kind = seen.Load }
+abbrev later : Access
+later = record { pc = 0x8000_0044; addr = 0; len = 1; kind = access.Load }
 
 abbrev block : LoadEntry
 block = record { pid = 1; program = 0; base = 0x8000_0000; pages = 2 }
@@ -40,7 +38,7 @@ tells : TellsAccess store (Ok (told.Stray stored))
 tells = refl
 
 tells-another : TellsAccess later (Ok (told.Stray stored)) → ⊥
-tells-another is = let pc : 0x8000_0040 ≡ 0x8000_0044 = ap (λ (s : Seen). s.pc) is in absurd (omega (arith, pc))
+tells-another is = let pc : 0x8000_0040 ≡ 0x8000_0044 = ap (λ (s : Access). s.pc) is in absurd (omega (arith, pc))
 
 tells-none : TellsAccess store (Ok told.AllEnded) → ⊥
 tells-none is = is

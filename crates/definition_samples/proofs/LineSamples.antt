@@ -4,8 +4,8 @@ use Rattle.std.specs.Prelude.{codes}
 use Rattle.std.specs.Fmt.{digits}
 use Rattle.hex.specs.Hex.{encode_with}
 use Rattle.call_log.specs.declared.how.How.TheVariants.{Exit, Signal}
-use Rattle.call_log.specs.declared.how.SeenKind.{SeenKind}
-use Rattle.call_log.specs.declared.how.SeenKind.TheVariants as seen
+use Rattle.byte_words.specs.declared.access.AccessKind.{AccessKind}
+use Rattle.byte_words.specs.declared.access.AccessKind.TheVariants as access
 use Rattle.call_log.specs.Notes.{Note, GotRange, call_note, load_note, end_note, stray_note}
 use Rattle.call_log.specs.Lines.{line}
 
@@ -40,11 +40,11 @@ ends : told (end_note 7 (Exit 255)) ++ told (end_note 10 (Signal 11)) ≡ codes 
 unfolding digits
 ends = refl
 
-abbrev stray : SeenKind → List ℕ
+abbrev stray : AccessKind → List ℕ
 stray kind = told (stray_note 3 (record { pc = 0x8000_0088; addr = 0xabc; len = 4; kind = kind }))
 
 strays :
-    stray seen.Fetch ++ stray seen.Load ++ stray seen.Store ++ stray seen.Call
+    stray access.Fetch ++ stray access.Load ++ stray access.Store ++ stray access.Call
     ≡ codes "stray 3 pc 0x80000088 addr 0x00000abc len 4 fetch\n"
     ++ codes "stray 3 pc 0x80000088 addr 0x00000abc len 4 load\n"
     ++ codes "stray 3 pc 0x80000088 addr 0x00000abc len 4 store\n"

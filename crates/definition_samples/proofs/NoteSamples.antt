@@ -4,7 +4,7 @@ use Rattle.std.specs.Prelude.{codes}
 use Rattle.std.specs.Fmt.{digits}
 use Rattle.hex.specs.Hex.{encode_with}
 use Rattle.call_log.specs.declared.how.How.TheVariants.{Exit, Signal}
-use Rattle.call_log.specs.declared.how.SeenKind.TheVariants.{Store}
+use Rattle.byte_words.specs.declared.access.AccessKind.TheVariants.{Store}
 use Rattle.call_log.specs.Errno.{refusal}
 use Rattle.call_log.specs.declared.errno.Errno.TheVariants.{Enosys}
 use Rattle.call_log.specs.Notes.{Note, call_note, load_note, end_note, stray_note}

@@ -23,7 +23,7 @@ use Rattle.elf2flt_tool.specs.Word.{numbered, words, records}
 use Rattle.elf2flt_tool.specs.Fault.{fault}
 use Rattle.elf2flt_tool.proofs.Samples.{one_word, one_word_flat, flat-one_word, fault-one_word}
 use Rattle.machine_world.specs.Turns.{all_ended, stuck, out_of_quanta, stray_at, log_full}
-use Rattle.rv32im_step.specs.declared.access.AccessKind.TheVariants.{Load}
+use Rattle.byte_words.specs.declared.access.AccessKind.TheVariants.{Load}
 use Rattle.file_commands.specs.declared.status.Status.{Status}
 use Rattle.file_commands.specs.declared.status.Status.TheVariants as status
 use Rattle.file_commands.specs.Status.{code_of}

@@ -4,7 +4,7 @@ use Rattle.std.proofs.lemmas.List.{append-nil}
 use Rattle.std.specs.Prelude.{◌==◌, ◌||◌, nat_lt, slice_index, if◌then◌else◌}
 use Rattle.byte_words.specs.ByteMap.{Bytes}
 use Rattle.rv32im_step.specs.Meaning.{Meaning, next, call, trap, refused}
-use Rattle.rv32im_step.specs.declared.access.Access.{Access}
+use Rattle.byte_words.specs.declared.access.Access.{Access}
 use Rattle.mmap_rules.specs.Space.{Space}
 use Rattle.call_log.specs.declared.errno.Errno.{Errno}
 use Rattle.call_log.specs.Errno.{refusal}
@@ -26,7 +26,7 @@ use Rattle.machine_world.specs.FamilyCalls.{who_of, waitid_fault, child_info, no
 use Rattle.machine_world.specs.Transfers.{write_row, writev_row}
 use Rattle.machine_world.specs.Rows.{row}
 use Rattle.machine_world.specs.Event.{Outcome, went, strays, full, idle, served, told_in, classed}
-use Rattle.machine_world.specs.Turns.{End, seen_of}
+use Rattle.machine_world.specs.Turns.{End}
 use Rattle.machine_world.proofs.States.{find_has}
 use Rattle.alone_laws.specs.Stays.{kept_calls_of}
 use Rattle.alone_laws.proofs.Lists.{eqb_is}
@@ -225,7 +225,7 @@ module _ (note : Note) (w : World) where
 tells_first : (p : Physical) (pid : ℕ) (o : Option Access) → TellsIn p.world (carried_out (with_stray pid o p) pid)
 unfolding kept_calls_of
 tells_first p pid None = tells_carried_out p pid
-tells_first p pid (Some access) = tells_noted (stray_note pid (seen_of access)) p.world refl (carried_out (with_stray pid (Some access) p) pid) (tells_carried_out (with_stray pid (Some access) p) pid)
+tells_first p pid (Some access) = tells_noted (stray_note pid access) p.world refl (carried_out (with_stray pid (Some access) p) pid) (tells_carried_out (with_stray pid (Some access) p) pid)
 
 tells_event : (p : Physical) (pid : ℕ) → TellsIn p.world (event_in p pid)
 unfolding event_in

@@ -1,16 +1,15 @@
 -- Each end that is noted along turns and runs is told in a stay.
 use Rattle.std.proofs.Common.{◌≡◌, ℕ, zero, suc, Bool, true, false, ◌⊎◌, inl, inr, List, [], ◌∷◌, ◌++◌, Option, Some, None, refl, sym, ap, subst, ◌∙◌, arith, append_assoc}
 use Rattle.std.specs.Prelude.{slice_get, if◌then◌else◌}
-use Rattle.rv32im_step.specs.declared.access.Access.{Access}
+use Rattle.byte_words.specs.declared.access.Access.{Access}
 use Rattle.call_log.specs.declared.how.How.{How}
-use Rattle.call_log.specs.declared.how.Seen.{Seen}
 use Rattle.call_log.specs.Notes.{Note, end_note, stray_note}
 use Rattle.quantum_sched.specs.declared.Quantum.{Quantum}
 use Rattle.quantum_sched.specs.Picked.{picked}
 use Rattle.machine_world.specs.World.{World}
 use Rattle.machine_world.specs.Families.{MayRun, ready_pids}
 use Rattle.machine_world.specs.Event.{Trace, Outcome, went, strays, full, idle, noted, event}
-use Rattle.machine_world.specs.Turns.{Walk, End, stray_at, seen_of, traced, remains_at, turned, turn, going_on, quantum_turn, turns}
+use Rattle.machine_world.specs.Turns.{Walk, End, stray_at, traced, remains_at, turned, turn, going_on, quantum_turn, turns}
 use Rattle.machine_world.proofs.TurnLaws.{turn_strays}
 use Rattle.machine_world.proofs.Runnable.{may_run_still, ready_found}
 use Rattle.alone_laws.specs.Stays.{Stay, change_at, longer, begun_stay, collect, collect_all, AreRight}
@@ -108,7 +107,7 @@ event_tells ys w pid now t sound may right is told i other how there =
     ]
 
 -- a stray access is noted, and is no end
-stray_tells : (ys : List Stay) (notes : List Note) (pid : ℕ) (seen : Seen) → EndsAreTold ys notes → EndsAreTold ys (stray_note pid seen ∷ notes)
+stray_tells : (ys : List Stay) (notes : List Note) (pid : ℕ) (seen : Access) → EndsAreTold ys notes → EndsAreTold ys (stray_note pid seen ∷ notes)
 stray_tells ys notes pid seen told zero other how there = absurd cc
 stray_tells ys notes pid seen told (suc i) other how there = told i other how there
 
@@ -136,14 +135,14 @@ module _ (ys : List Stay) (w : World) (pid : ℕ) (may : MayRun w pid) (h : Hold
     told = event_tells ys w pid now t h.sound may h.right is h.told;
   }
 
-  holds_strays : (access : Access) → event w pid ≡ strays access → HoldsBehind ys (remains_at (noted (stray_note pid (seen_of access)) w) (Some (stray_at pid access)))
+  holds_strays : (access : Access) → event w pid ≡ strays access → HoldsBehind ys (remains_at (noted (stray_note pid access) w) (Some (stray_at pid access)))
   unfolding collect_all
   holds_strays access is =
       let one = turn_strays pid w access is 1 (omega arith) in
       record {
         sound = subst (λ (walk : Walk). IsSound walk.world) one (turns_keep_sound 1 pid w h.sound may);
         right = subst (λ (walk : Walk). AreRight (collect_all ys walk.traces) walk.world) one (turns_keep_stays ys 1 pid w h.sound may h.right);
-        told = stray_tells ys w.notes pid (seen_of access) h.told;
+        told = stray_tells ys w.notes pid access h.told;
       }
 
   holds_turned : (more : World → Walk) → ((zs : List Stay) (v : World) → MayRun v pid → Holds zs v → HoldsBehind zs (more v))

@@ -1,11 +1,10 @@
 -- What a run that halts keeps follows from the turns that it makes.
 use Rattle.std.proofs.Common.{◌≡◌, false, List, reverse, Option, Some, None, Result, sym, ap, ◌∙◌}
-use Rattle.std.specs.Prelude.{is_some, option_map}
+use Rattle.std.specs.Prelude.{is_some}
 use Rattle.std.specs.declared.alloc.AllocError.{AllocError}
 use Rattle.quantum_sched.specs.declared.Quantum.{Quantum}
-use Rattle.rv32im_step.specs.declared.access.Access.{Access}
+use Rattle.byte_words.specs.declared.access.Access.{Access}
 use Rattle.call_log.specs.Notes.{Note}
-use Rattle.machine_world.specs.Turns.{seen_of}
 use Rattle.region_watch.specs.declared.mode.Mode.{Mode}
 use Rattle.region_watch.specs.declared.mode.Mode.TheVariants.{Halt, GoOn}
 use Rattle.syscall_layer.specs.Parts.{halted_at}
@@ -34,13 +33,13 @@ halt_runs qs old new r ordered runs quiet copies = record {
 }
 
 -- a run that goes on ends at no stray access
-pub none_halted_on : (mode : Mode) (notes : List Note) (o : Option Access) (access : Access) → option_map seen_of o ≡ halted_at mode notes → o ≡ Some access → mode ≡ GoOn → ⊥
+pub none_halted_on : (mode : Mode) (notes : List Note) (o : Option Access) (access : Access) → o ≡ halted_at mode notes → o ≡ Some access → mode ≡ GoOn → ⊥
 none_halted_on mode notes o access found is go =
-    let both : Some (seen_of access) ≡ None = sym (ap (option_map seen_of) is) ∙ found ∙ ap (λ (m : Mode). halted_at m notes) go in
+    let both : Some access ≡ None = sym is ∙ found ∙ ap (λ (m : Mode). halted_at m notes) go in
     absurd cc
 
 -- and one that ends at its first noted none, as long as it hasn't ended there
-pub none_astray : (mode : Mode) (notes : List Note) (o : Option Access) → option_map seen_of o ≡ halted_at mode notes → o ≡ None → mode ≡ Halt → has_stray notes ≡ false
+pub none_astray : (mode : Mode) (notes : List Note) (o : Option Access) → o ≡ halted_at mode notes → o ≡ None → mode ≡ Halt → has_stray notes ≡ false
 none_astray mode notes o found none halt =
-    let first : first_noted (reverse notes) ≡ None = ap (λ (m : Mode). halted_at m notes) (sym halt) ∙ sym found ∙ ap (option_map seen_of) none in
+    let first : first_noted (reverse notes) ≡ None = ap (λ (m : Mode). halted_at m notes) (sym halt) ∙ sym found ∙ none in
     sym (stray_reversed notes) ∙ stray_first (reverse notes) ∙ ap is_some first

@@ -6,14 +6,13 @@ use Rattle.std.specs.declared.alloc.AllocError.{AllocError}
 use Rattle.std.proofs.lemmas.Bool.{false≢true}
 use Rattle.page_runs.specs.declared.place.Kind.{Kind}
 use Rattle.bflt_format.specs.Values.{Values}
-use Rattle.rv32im_step.specs.declared.access.Access.{Access}
+use Rattle.byte_words.specs.declared.access.Access.{Access}
 use Rattle.rv32im_step.specs.declared.stop.Stop.{Stop}
 use Rattle.rv32im_step.specs.declared.stop.Stop.TheVariants.{Next, Call, Trap, Refused}
 use Rattle.call_log.specs.Notes.{stray_note}
 use Rattle.vfork_exec.specs.Procs.{CanRun}
 use Rattle.machine_world.specs.World.{World}
 use Rattle.machine_world.specs.Event.{Outcome, went, strays, full, idle, noted, stray_in, stray, event}
-use Rattle.machine_world.specs.Turns.{seen_of}
 use Rattle.memory_world.specs.Physical.{Physical, After as Outcome_in, after as goes, no_room, nobody, has_stray, first_stray_in, with_stray, event_in, turn_in, WalkIn}
 use Rattle.memory_world.specs.Courses.{LeadsIn, StandsIn}
 use Rattle.memory_world.specs.After.{AfterHas}
@@ -193,7 +192,7 @@ module _ (headers : List (List ℕ)) (a : About) (old new : Kept) (pid : ℕ) wh
   now_in = physical_of headers a old
 
   noted_adds : (access : Access) → (o : Outcome_in) → event_in (with_stray pid (Some access) now_in) pid ≡ o → (r : After) → NotStray r → CarriedIn headers a o old new pid (Ok r)
-      → Adds (noted (stray_note pid (seen_of access)) (world_of a old)) (world_of a new)
+      → Adds (noted (stray_note pid access) (world_of a old)) (world_of a new)
   unfolding physical_of world_of
   noted_adds access (goes now over) is after.GoesOn other x =
       let v = with_stray pid (Some access) now_in in
@@ -215,7 +214,7 @@ module _ (headers : List (List ℕ)) (a : About) (old new : Kept) (pid : ℕ) wh
   noted_adds access nobody is after.LogFull other x = absurd x
 
   first_adds : (access : Access) → event (world_of a old) pid ≡ strays access → has_stray old.notes ≡ false → (r : After) → NotStray r → CarriedIn headers a (event_in now_in pid) old new pid (Ok r)
-      → Adds (noted (stray_note pid (seen_of access)) (world_of a old)) (world_of a new)
+      → Adds (noted (stray_note pid access) (world_of a old)) (world_of a new)
   unfolding physical_of world_of stray
   first_adds access is quiet r other x =
       let first = first_strays now_in pid access quiet (ap stray_in is) in
@@ -223,7 +222,7 @@ module _ (headers : List (List ℕ)) (a : About) (old new : Kept) (pid : ℕ) wh
       let at : StraysIn pid now_in v = record { access = access; first = first; noted = refl } in
       noted_adds access (event_in now_in pid) (behind_is pid now_in v at ∙ sym (before_is pid now_in v at)) r other x
 
-  past_strays : (access : Access) (r : After) → NotStray r → Adds (noted (stray_note pid (seen_of access)) (world_of a old)) (world_of a new) → CarriedOrPast a (strays access) old new pid (Ok r)
+  past_strays : (access : Access) (r : After) → NotStray r → Adds (noted (stray_note pid access) (world_of a old)) (world_of a new) → CarriedOrPast a (strays access) old new pid (Ok r)
   past_strays access (after.Strays seen) other adds = absurd (other seen refl)
   past_strays access after.GoesOn other adds = adds
   past_strays access after.TurnEnds other adds = adds
@@ -361,7 +360,7 @@ module _ (headers : List (List ℕ)) (a : About) (old : Kept) (pid : ℕ) (acces
     hits_behind (Err error) same x = same
 
 -- up to there its note stands before what it adds
-noted_world : (pid : ℕ) (access : Access) (old : Kept) (a : About) → world_of a (with_range pid (Some access) old) ≡ noted (stray_note pid (seen_of access)) (world_of a old)
+noted_world : (pid : ℕ) (access : Access) (old : Kept) (a : About) → world_of a (with_range pid (Some access) old) ≡ noted (stray_note pid access) (world_of a old)
 unfolding world_of
 noted_world pid access old a = refl
 
@@ -369,7 +368,7 @@ module _ (kind : Kind) (flats : List Values) (old new : Kept) (pid : ℕ) (acces
   abbrev EventBehind : Result After AllocError → Type 0
   EventBehind r = (a : About) → a.kind ≡ kind → AreFlats a.programs flats → EventIn (headers_of flats) a (with_range pid (Some access) old) new pid r
 
-  adds_behind : (r : After) → EventBehind (Ok r) → (a : About) → Adds (noted (stray_note pid (seen_of access)) (world_of a old)) (world_of a new)
+  adds_behind : (r : After) → EventBehind (Ok r) → (a : About) → Adds (noted (stray_note pid access) (world_of a old)) (world_of a new)
   adds_behind r memory a = subst (λ (w : World). Adds w (world_of a new)) (noted_world pid access old a) (adds_event kind flats (with_range pid (Some access) old) new pid r memory a)
 
   pub past_behind : (r : Result After AllocError) → OnErr r (new ≡ old) → IfOk r (λ x. EventBehind r) → (a : About) → CarriedOrPast a (strays access) old new pid r

@@ -1,7 +1,7 @@
 -- The hits of a turn go on behind its events, in the world of private spaces and in the one memory.
 use Rattle.std.proofs.Common.{◌≡◌, ℕ, zero, suc, ◌+◌, ◌-◌, ◌<◌, Bool, false, List, [], ◌++◌, Option, Some, None, refl, sym, ap, subst, ◌∙◌, arith, append_assoc}
 use Rattle.byte_words.specs.ByteMap.{Bytes}
-use Rattle.rv32im_step.specs.declared.access.Access.{Access}
+use Rattle.byte_words.specs.declared.access.Access.{Access}
 use Rattle.rv32im_step.specs.declared.regs.Regs.{Regs}
 use Rattle.rv32im_step.specs.declared.stop.Stop.{Stop}
 use Rattle.rv32im_step.specs.declared.stop.Stop.TheVariants.{Next, Call, Trap, Refused}
@@ -13,7 +13,7 @@ use Rattle.region_watch.specs.Instructions.{goes_on, instructions, asked_behind,
 use Rattle.vfork_exec.specs.Keyed.{find}
 use Rattle.machine_world.specs.World.{World, Process, LiveSpace, pid_of, id_of}
 use Rattle.machine_world.specs.Event.{Trace, Outcome, went, noted, effect, stepped, event}
-use Rattle.machine_world.specs.Turns.{Walk, seen_of, turn}
+use Rattle.machine_world.specs.Turns.{Walk, turn}
 use Rattle.machine_world.specs.Courses.{StandsAt, moved}
 use Rattle.machine_world.proofs.States.{with_regs, with_own, lives_moved, has_moved, event_is}
 use Rattle.machine_world.proofs.TurnLaws.{turn_next}
@@ -179,7 +179,7 @@ module _ (kind : PointKind) (spans : List Span) (pid : ℕ) where
         same = refl;
       }
       by (Some access) strays =
-          let v : Physical = record p { world = noted (stray_note pid (seen_of access)) p.world } in
+          let v : Physical = record p { world = noted (stray_note pid access) p.world } in
           record {
             mid = moved_in v q s.space regs now 1;
             space = shown_space now s;

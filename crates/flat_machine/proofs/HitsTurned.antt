@@ -1,7 +1,7 @@
 -- The hits of a turn, by its events: none is made but by instructions that are carried out.
 use Rattle.std.proofs.Common.{◌≡◌, ℕ, zero, suc, ◌+◌, ◌-◌, ◌<◌, List, [], Some, None, Ok, Err, refl, sym, ap, subst, ◌∙◌, arith}
 use Rattle.std.specs.declared.alloc.AllocError.{AllocError}
-use Rattle.rv32im_step.specs.declared.access.Access.{Access}
+use Rattle.byte_words.specs.declared.access.Access.{Access}
 use Rattle.rv32im_step.specs.declared.stop.Stop.{Stop}
 use Rattle.page_runs.specs.declared.place.Kind.{Kind}
 use Rattle.bflt_format.specs.Values.{Values}

@@ -1,7 +1,7 @@
 -- A turn, by its events.
 use Rattle.std.proofs.Common.{◌≡◌, ◌≢◌, ℕ, ◌+◌, ◌<◌, List, [], ◌∷◌, Some, None, Ok, Err, refl, sym, ap, subst, ◌∙◌, arith}
 use Rattle.std.specs.declared.alloc.AllocError.{AllocError}
-use Rattle.rv32im_step.specs.declared.access.Access.{Access}
+use Rattle.byte_words.specs.declared.access.Access.{Access}
 use Rattle.rv32im_step.specs.declared.stop.Stop.{Stop}
 use Rattle.rv32im_step.specs.declared.stop.Stop.TheVariants.{Next, Call, Trap, Refused}
 use Rattle.page_runs.specs.declared.place.Kind.{Kind}
@@ -10,7 +10,7 @@ use Rattle.call_log.specs.Notes.{stray_note}
 use Rattle.vfork_exec.specs.Procs.{CanRun}
 use Rattle.machine_world.specs.World.{World}
 use Rattle.machine_world.specs.Event.{Outcome, went, strays, full, idle, noted, event}
-use Rattle.machine_world.specs.Turns.{stray_at, log_full, Walk, seen_of, remains_at, turn, walked}
+use Rattle.machine_world.specs.Turns.{stray_at, log_full, Walk, remains_at, turn, walked}
 use Rattle.machine_world.specs.Courses.{Leads, StandsAt, Halts}
 use Rattle.machine_world.proofs.TurnLaws.{leads_none, leads_on, leads_event, turn_over, turn_strays, turn_full, turn_used, turn_from}
 use Rattle.kept_parts.specs.Flats.{AreFlats}
@@ -133,7 +133,7 @@ module _ (kind : Kind) (flats : List Values) (pid count : ℕ) (old now : Kept) 
     strays_with : (a : About) → a.kind ≡ kind → AreFlats a.programs flats → (o : Outcome) (seen : Access) → event (world_of (later n a) now) pid ≡ o
         → CarriedOrEnds (later n a) o now new pid (Ok (after.Strays seen)) → TurnLeaves pid count (world_of a old) n (world_of (later n a) new) (Ok (Some (told.Stray seen)))
     strays_with a so are (strays access) seen is x =
-        let w : World = noted (stray_note pid (seen_of access)) (world_of (later n a) now) in
+        let w : World = noted (stray_note pid access) (world_of (later n a) now) in
         let same = whole a so are (remains_at w (Some (stray_at pid access))) (turn_strays pid (world_of (later n a) now) access is) in
         (ap (λ (z : Walk). z.world) same ∙ sym x.1, rw same x.0)
     strays_with a so are (went v t) seen is x = absurd x

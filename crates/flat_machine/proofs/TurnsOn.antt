@@ -4,7 +4,7 @@ use Rattle.std.specs.declared.alloc.AllocError.{AllocError}
 use Rattle.std.proofs.lemmas.Bool.{false≢true}
 use Rattle.page_runs.specs.declared.place.Kind.{Kind}
 use Rattle.bflt_format.specs.Values.{Values}
-use Rattle.rv32im_step.specs.declared.access.Access.{Access}
+use Rattle.byte_words.specs.declared.access.Access.{Access}
 use Rattle.rv32im_step.specs.declared.stop.Stop.{Stop}
 use Rattle.vfork_exec.specs.Procs.{CanRun}
 use Rattle.region_watch.specs.declared.mode.Mode.{Mode}

@@ -3,11 +3,11 @@ use Rattle.std.proofs.Common.{◌≡◌, ℕ, ◌+◌, ◌<◌, ◌≤◌, inl, 
 use Rattle.std.proofs.lemmas.Bool.{false≢true, cases_Bool}
 use Rattle.page_runs.specs.declared.place.Kind.{Kind}
 use Rattle.bflt_format.specs.Values.{Values}
-use Rattle.rv32im_step.specs.declared.access.Access.{Access}
+use Rattle.byte_words.specs.declared.access.Access.{Access}
 use Rattle.call_log.specs.Notes.{stray_note}
 use Rattle.machine_world.specs.World.{World}
 use Rattle.machine_world.specs.Event.{Outcome, went, strays, full, idle, noted, event}
-use Rattle.machine_world.specs.Turns.{Walk, stray_at, seen_of, remains_at, turn, walked}
+use Rattle.machine_world.specs.Turns.{Walk, stray_at, remains_at, turn, walked}
 use Rattle.machine_world.proofs.TurnLaws.{turn_strays, turn_from}
 use Rattle.memory_world.specs.Physical.{has_stray}
 use Rattle.memory_world.specs.Physical.{WalkIn}
@@ -33,16 +33,16 @@ use Rattle.flat_machine.proofs.Turned.{Reached, reached_none, reached_on, event_
 pub record WentPast (a : About) (old new : Kept) (pid : ℕ) : Type 0 where
   pub access : Access
   pub strays : event (world_of a old) pid ≡ strays access
-  pub adds : Adds (noted (stray_note pid (seen_of access)) (world_of a old)) (world_of a new)
+  pub adds : Adds (noted (stray_note pid access) (world_of a old)) (world_of a new)
 
 module _ (a : About) (old new : Kept) (pid : ℕ) where
   went_on_quiet : (now : World) → (has_stray (world_of a old).notes ≡ false → has_stray now.notes ≡ false) → has_stray old.notes ≡ false → now ≡ world_of (later 1 a) new → has_stray new.notes ≡ false
   unfolding world_of
   went_on_quiet now is quiet same = ap (λ (w : World). has_stray w.notes) (sym same) ∙ is quiet
 
-  noted_strays : (access : Access) → Adds (noted (stray_note pid (seen_of access)) (world_of a old)) (world_of a new) → has_stray new.notes ≡ true
+  noted_strays : (access : Access) → Adds (noted (stray_note pid access) (world_of a old)) (world_of a new) → has_stray new.notes ≡ true
   unfolding world_of
-  noted_strays access adds = adds_stray (noted (stray_note pid (seen_of access)) (world_of a old)) (world_of a new) adds refl
+  noted_strays access adds = adds_stray (noted (stray_note pid access) (world_of a old)) (world_of a new) adds refl
 
   -- where still none was noted it is the event of the private spaces
   pub past_quiet : (o : Outcome) (r : After) → has_stray new.notes ≡ false → CarriedOrPast a o old new pid (Ok r) → Carried a o old new pid (Ok r)
@@ -136,7 +136,7 @@ module _ (kind : Kind) (flats : List Values) (pid : ℕ) (old : Kept) where
     first_past : Reached kind flats pid old n mid → ((a : About) → a.kind ≡ kind → AreFlats a.programs flats → WentPast a mid new pid) → PastReached kind flats pid old (n + 1) new
     first_past reached past a so are count most =
         let w = past (later n a) so are in
-        let now : World = noted (stray_note pid (seen_of w.access)) (world_of (later n a) mid) in
+        let now : World = noted (stray_note pid w.access) (world_of (later n a) mid) in
         let less : n < count = omega (arith, most) in
         let same : turn count pid (world_of a old) ≡ walked (reached a so are).traces (remains_at now (Some (stray_at pid w.access))) =
         turn_from pid (world_of a old) (world_of (later n a) mid) n (reached a so are) count (remains_at now (Some (stray_at pid w.access))) less (turn_strays pid (world_of (later n a) mid) w.access w.strays) in

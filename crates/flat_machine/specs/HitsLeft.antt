@@ -2,7 +2,7 @@
 use Rattle.std.specs.Prelude.{◌≡◌, ℕ, suc, ◌+◌, List, [], ◌∷◌, ◌++◌, Option, Some, None, Result, Ok, Err}
 use Rattle.std.specs.declared.alloc.AllocError.{AllocError}
 use Rattle.quantum_sched.specs.declared.Quantum.{Quantum}
-use Rattle.call_log.specs.declared.how.Seen.{Seen}
+use Rattle.byte_words.specs.declared.access.Access.{Access}
 use Rattle.machine_world.specs.World.{World}
 use Rattle.memory_world.specs.Physical.{Physical}
 use Rattle.syscall_layer.specs.Parts.{halted_at}
@@ -77,4 +77,4 @@ HitsFollowIn kind spans before after quanta old new (Err error) = HitsStopIn kin
 
 -- a run that has ended at its first stray access finds none
 abbrev pub NoneWhereHalted : State → (before after : Found) → Type 0
-NoneWhereHalted old before after = (seen : Seen) → halted_at old.mode old.kept.notes ≡ Some seen → after ≡ before
+NoneWhereHalted old before after = (seen : Access) → halted_at old.mode old.kept.notes ≡ Some seen → after ≡ before

@@ -6,7 +6,7 @@ use Rattle.quantum_sched.specs.declared.Quantum.{Quantum}
 use Rattle.vfork_exec.specs.Procs.{CanRun}
 use Rattle.machine_world.specs.World.{World}
 use Rattle.machine_world.specs.Event.{Outcome, went, strays, full, noted}
-use Rattle.machine_world.specs.Turns.{seen_of, turn, turns}
+use Rattle.machine_world.specs.Turns.{turn, turns}
 use Rattle.machine_world.specs.Courses.{Comes}
 use Rattle.memory_world.specs.Growth.{Adds}
 use Rattle.kept_parts.specs.Kept.{Kept}
@@ -27,13 +27,13 @@ Carried a outcome old new pid (Ok other) = ⊥
 
 -- where a run ends at its first stray access, that is noted
 abbrev pub CarriedOrEnds : About → Outcome → Kept → Kept → ℕ → Result After AllocError → Type 0
-CarriedOrEnds a (strays access) old new pid (Ok (after.Strays seen)) = (seen ≡ access) × (world_of a new ≡ noted (stray_note pid (seen_of access)) (world_of a old))
+CarriedOrEnds a (strays access) old new pid (Ok (after.Strays seen)) = (seen ≡ access) × (world_of a new ≡ noted (stray_note pid access) (world_of a old))
 CarriedOrEnds a outcome old new pid result = Carried a outcome old new pid result
 
 -- where it goes on, its event comes behind that note, and only adds; or nothing is done yet
 abbrev pub CarriedOrPast : About → Outcome → Kept → Kept → ℕ → Result After AllocError → Type 0
 CarriedOrPast a (strays access) old new pid (Ok (after.Strays seen)) = (seen ≡ access) × (new ≡ old)
-CarriedOrPast a (strays access) old new pid (Ok behind) = Adds (noted (stray_note pid (seen_of access)) (world_of a old)) (world_of a new)
+CarriedOrPast a (strays access) old new pid (Ok behind) = Adds (noted (stray_note pid access) (world_of a old)) (world_of a new)
 CarriedOrPast a outcome old new pid result = Carried a outcome old new pid result
 
 -- a turn out of memory: behind some events the process stands at one that isn't an instruction that is carried out

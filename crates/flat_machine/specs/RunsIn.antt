@@ -2,8 +2,8 @@
 use Rattle.std.specs.Prelude.{◌≡◌, Bool, true, false, List, Some, Result, Ok, Err}
 use Rattle.std.specs.declared.alloc.AllocError.{AllocError}
 use Rattle.quantum_sched.specs.declared.Quantum.{Quantum}
-use Rattle.call_log.specs.declared.how.Seen.{Seen}
-use Rattle.machine_world.specs.Turns.{seen_of, turns}
+use Rattle.byte_words.specs.declared.access.Access.{Access}
+use Rattle.machine_world.specs.Turns.{turns}
 use Rattle.memory_world.specs.Physical.{has_stray, turns_in}
 use Rattle.flat_machine.specs.declared.run.End.{End as Told}
 use Rattle.flat_machine.specs.declared.run.End.TheVariants as told
@@ -36,10 +36,10 @@ GoesOn quanta old new (Ok end) =
 GoesOn quanta old new (Err error) = Unit {0}
 
 -- that access is told
-abbrev pub TellsAccess : Seen → Result Told AllocError → Type 0
-TellsAccess seen (Ok (told.Stray access)) = seen_of access ≡ seen
+abbrev pub TellsAccess : Access → Result Told AllocError → Type 0
+TellsAccess seen (Ok (told.Stray access)) = access ≡ seen
 TellsAccess seen other = ⊥
 
 -- a run that has ended at its first stray access stays there, and tells it again
 abbrev pub RemainsHalted : State → State → Result Told AllocError → Type 0
-RemainsHalted old new r = (seen : Seen) → halted_at old.mode old.kept.notes ≡ Some seen → (new ≡ old) × TellsAccess seen r
+RemainsHalted old new r = (seen : Access) → halted_at old.mode old.kept.notes ≡ Some seen → (new ≡ old) × TellsAccess seen r

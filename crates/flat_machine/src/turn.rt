@@ -3,7 +3,7 @@
 ghost use Rattle.std.specs.Prelude.{◌≡◌, ◌≤◌, ℕ, true, false, Some, List, IfOk, Ok, OnErr};
 ghost use Rattle.page_runs.specs.Choosers.{IsChooser, kind_of};
 ghost use Rattle.vfork_exec.specs.Procs.{CanRun};
-ghost use Rattle.rv32im_step.specs.declared.access.Access.{Access};
+ghost use Rattle.byte_words.specs.declared.access.Access.{Access};
 ghost use Rattle.rv32im_step.specs.declared.stop.Stop.TheVariants.{Call, Refused};
 ghost use Rattle.machine_world.specs.Event.{event, strays};
 ghost use Rattle.machine_world.specs.Courses.{Leads, Halts, StandsAt};

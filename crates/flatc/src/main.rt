@@ -1,7 +1,7 @@
 //! The program `flatc`: its arguments, its two pages and its exit status.
 //!
-//! What a command does, and every text of a command, stands in `suite_top`; the real files and
-//! streams stand in `host_io`.
+//! What a command does stands in `suite_top` and `file_commands`, which has every text of a command but a run's report; the real
+//! files and streams stand in `host_io`.
 #![tactic(auto)]
 
 mod pages;

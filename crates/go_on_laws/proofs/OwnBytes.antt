@@ -1,7 +1,7 @@
 -- One memory stands for every world of a run, so that the bytes of a space are there exactly in its own ranges.
 use Rattle.std.proofs.Common.{◌≡◌, ℕ, zero, suc, Bool, true, false, List, [], ◌∷◌, Option, Some, None, refl, ap, subst, ◌∙◌, arith}
 use Rattle.std.specs.Prelude.{is_some, if◌then◌else◌, map}
-use Rattle.rv32im_step.specs.declared.access.Access.{Access}
+use Rattle.byte_words.specs.declared.access.Access.{Access}
 use Rattle.byte_words.specs.ByteMap.{Bytes}
 use Rattle.region_watch.specs.Private.{only}
 use Rattle.mmap_rules.specs.Space.{own_in}
@@ -11,7 +11,7 @@ use Rattle.quantum_sched.specs.Picked.{picked}
 use Rattle.machine_world.specs.World.{World}
 use Rattle.machine_world.specs.Families.{MayRun, ready_pids}
 use Rattle.machine_world.specs.Event.{Trace, Outcome, went, strays, full, idle, noted, event}
-use Rattle.machine_world.specs.Turns.{Walk, End, stray_at, seen_of, traced, remains_at, turned, turn, going_on, quantum_turn, turns}
+use Rattle.machine_world.specs.Turns.{Walk, End, stray_at, traced, remains_at, turned, turn, going_on, quantum_turn, turns}
 use Rattle.machine_world.proofs.TurnLaws.{turn_strays}
 use Rattle.machine_world.proofs.Runnable.{may_run_still, ready_found}
 use Rattle.alone_laws.specs.Sound.{IsSound}
@@ -65,10 +65,10 @@ module _ (w : World) (pid : ℕ) (may : MayRun w pid) (h : Stood w) where
       record { sound = events_keep_sound w pid now t h.sound may is; memory = leads.behind; stands = leads.stands }
 
   -- a note changes nothing of it
-  stood_strays : (access : Access) → event w pid ≡ strays access → StoodBehind (remains_at (noted (stray_note pid (seen_of access)) w) (Some (stray_at pid access)))
+  stood_strays : (access : Access) → event w pid ≡ strays access → StoodBehind (remains_at (noted (stray_note pid access) w) (Some (stray_at pid access)))
   stood_strays access is = record {
     sound = subst (λ (walk : Walk). IsSound walk.world) (turn_strays pid w access is 1 (omega arith)) (turns_keep_sound 1 pid w h.sound may);
-    memory = record h.memory { world = noted (stray_note pid (seen_of access)) w };
+    memory = record h.memory { world = noted (stray_note pid access) w };
     stands = record { world = refl; shown = shown w h.memory h.sound h.stands; all = h.stands.all; copies = h.stands.copies; headers = h.stands.headers };
   }
 

@@ -2,7 +2,7 @@
 use Rattle.std.proofs.Common.{◌≡◌, ℕ, zero, suc, Bool, true, false, List, [], ◌∷◌, ◌++◌, length, Option, Some, None, refl, sym, ap, subst, ◌∙◌, append_assoc}
 use Rattle.std.specs.Prelude.{◌==◌, if◌then◌else◌, IsSome, option_map}
 use Rattle.std.proofs.lemmas.Option.{none-some}
-use Rattle.rv32im_step.specs.declared.access.Access.{Access}
+use Rattle.byte_words.specs.declared.access.Access.{Access}
 use Rattle.call_log.specs.Notes.{Note, stray_note}
 use Rattle.mmap_rules.specs.Space.{Space}
 use Rattle.quantum_sched.specs.declared.Quantum.{Quantum}
@@ -13,7 +13,7 @@ use Rattle.machine_world.specs.World.{Process, LiveSpace, Rest, World, pid_of, i
 use Rattle.machine_world.specs.Families.{MayRun, ready_pids}
 use Rattle.machine_world.specs.Asks.{Ask, Row, replies, waits}
 use Rattle.machine_world.specs.Event.{Trace, Outcome, went, strays, full, idle, noted, ended, ask_of, event, stray}
-use Rattle.machine_world.specs.Turns.{Walk, End, all_ended, stuck, out_of_quanta, stray_at, log_full, seen_of, remains_at, traced, turned, turn, going_on, none_runs, quantum_turn, last_end, turns}
+use Rattle.machine_world.specs.Turns.{Walk, End, all_ended, stuck, out_of_quanta, stray_at, log_full, remains_at, traced, turned, turn, going_on, none_runs, quantum_turn, last_end, turns}
 use Rattle.machine_world.proofs.Kept.{Answers}
 use Rattle.machine_world.proofs.ByEvents.{Went, Answered, Happened, by_event}
 use Rattle.machine_world.proofs.Runnable.{may_run_still, ready_found}
@@ -86,7 +86,7 @@ turned_same more p q nobody done = absurd done
 
 module _ (p : Physical) (pid : ℕ) (access : Access) (sound : IsSound p.world) (may : MayRun p.world pid) (none : has_stray p.world.notes ≡ false) (is : event p.world pid ≡ strays access) where
   abbrev there : Physical
-  there = record p { world = noted (stray_note pid (seen_of access)) p.world }
+  there = record p { world = noted (stray_note pid access) p.world }
 
   first_is : stray p.world pid ≡ Some access
   unfolding stray
@@ -106,7 +106,7 @@ module _ (p : Physical) (pid : ℕ) (access : Access) (sound : IsSound p.world) 
   unfolding turn_in
   same_turn n = turned_same (turn_in n pid) p there (event_in p pid) is_done ∙ ap (turned_in (turn_in n pid) there) same_event
 
-  strayed_adds : (n : ℕ) → Adds (noted (stray_note pid (seen_of access)) p.world) (turn_in (suc n) pid p).now.world
+  strayed_adds : (n : ℕ) → Adds (noted (stray_note pid access) p.world) (turn_in (suc n) pid p).now.world
   strayed_adds n = subst (λ (walk : WalkIn). Adds there.world walk.now.world) (sym (same_turn n)) (turns_add (suc n) pid there)
 
 -- ---- turns
@@ -135,7 +135,7 @@ goes_turn (suc n) pid w p sound may stands none =
         over false ends behind on unstrayed = more now behind (events_keep_sound w pid now t sound may is) (may_run_still w pid now t may is ends) on unstrayed
     by (strays access) is more =
         subst (λ (v : World). IsSound v → MayRun v pid → has_stray v.notes ≡ false → event v pid ≡ strays access
-        → GoesPast (noted (stray_note pid (seen_of access)) v) (turn_in (suc n) pid p) pid access) stands.world
+        → GoesPast (noted (stray_note pid access) v) (turn_in (suc n) pid p) pid access) stands.world
         (λ s m u e. record { before = p.world; newest = refl; first = u; adds = strayed_adds p pid access s m u e n }) sound may none is
     by full is more =
         subst (λ (a : After). GoesAlike w (turned_in (turn_in n pid) p a) (Some log_full)) (sym (full_events_go_on w p pid sound stands is).1)

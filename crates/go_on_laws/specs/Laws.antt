@@ -1,13 +1,13 @@
 -- A run that goes on is the run of private spaces, up to its first stray access.
 use Rattle.std.specs.Prelude.{◌≡◌, ◌≢◌, ℕ, ◌≤◌, Bool, false, List, length, Option, Some, Ok}
-use Rattle.rv32im_step.specs.declared.access.Access.{Access}
+use Rattle.byte_words.specs.declared.access.Access.{Access}
 use Rattle.call_log.specs.Notes.{stray_note}
 use Rattle.quantum_sched.specs.declared.Quantum.{Quantum}
 use Rattle.vfork_exec.specs.Procs.{most_entries}
 use Rattle.machine_world.specs.World.{Rest, World}
 use Rattle.machine_world.specs.Families.{MayRun}
 use Rattle.machine_world.specs.Event.{Trace, went, full, noted, event}
-use Rattle.machine_world.specs.Turns.{End, stray_at, seen_of, turn, turns}
+use Rattle.machine_world.specs.Turns.{End, stray_at, turn, turns}
 use Rattle.machine_world.specs.Boot.{StartLine, boot}
 use Rattle.alone_laws.specs.Sound.{IsSound}
 use Rattle.alone_laws.specs.Laws.{CanBoot}
@@ -60,7 +60,7 @@ pub record EndsAlike (w : World) (walk : WalkIn) (end : Option End) : Type 0 whe
 -- notes and to the console
 pub record GoesPast (w : World) (walk : WalkIn) (pid : ℕ) (access : Access) : Type 0 where
   pub before : World
-  pub newest : w ≡ noted (stray_note pid (seen_of access)) before
+  pub newest : w ≡ noted (stray_note pid access) before
   pub first : has_stray before.notes ≡ false
   pub adds : Adds w walk.now.world
 

@@ -18,7 +18,7 @@ use Rattle.mmap_rules.specs.Held.{released, page_address}
 use Rattle.mmap_rules.specs.Copies.{HasFile, HasSource}
 use Rattle.mem_files.specs.Inodes.{Inodes}
 use Rattle.call_log.specs.declared.how.How.{How}
-use Rattle.call_log.specs.declared.how.Seen.{Seen}
+use Rattle.byte_words.specs.declared.access.Access.{Access}
 use Rattle.call_log.specs.Notes.{CallEntry, LoadEntry, Note, call_note, load_note, end_note, stray_note, calls_in, bytes_in, has_room}
 use Rattle.flat_loader.specs.Loads.{block_region}
 use Rattle.flat_loader.specs.Begin.{Loading, in_block, block_end}
@@ -44,7 +44,7 @@ load_counts entry notes = omega arith
 pub end_counts : (pid : ℕ) (how : How) (notes : List Note) → kept_calls (end_note pid how ∷ notes) ≡ kept_calls notes
 end_counts pid how notes = omega arith
 
-pub stray_counts : (pid : ℕ) (seen : Seen) (notes : List Note) → kept_calls (stray_note pid seen ∷ notes) ≡ kept_calls notes
+pub stray_counts : (pid : ℕ) (seen : Access) (notes : List Note) → kept_calls (stray_note pid seen ∷ notes) ≡ kept_calls notes
 stray_counts pid seen notes = omega arith
 
 -- a call that has room can be counted

@@ -1,15 +1,13 @@
 -- Whether the note of a stray access is among notes, in whatever order, and which is the first.
 use Rattle.std.proofs.Common.{◌≡◌, ◌≢◌, ℕ, suc, ◌+◌, ◌<◌, ◌≤◌, Bool, true, false, List, [], ◌∷◌, ◌++◌, length, map, reverse, take, drop, get_or, Option, Some, None, refl, sym, ap, ◌∙◌, arith, append_assoc}
-use Rattle.std.specs.Prelude.{◌||◌, is_some, option_map}
+use Rattle.std.specs.Prelude.{◌||◌, is_some}
 use Rattle.std.proofs.lemmas.List.{map-append, reverse-append, take-append-drop, take_all}
 use Rattle.std.proofs.Math.Seq.{take-suc}
-use Rattle.rv32im_step.specs.declared.access.Access.{Access}
-use Rattle.call_log.specs.declared.how.Seen.{Seen}
+use Rattle.byte_words.specs.declared.access.Access.{Access}
 use Rattle.call_log.specs.declared.note.Note.{Note as Stored}
 use Rattle.call_log.specs.declared.note.Note.TheVariants.{Call, Load, End, Stray}
 use Rattle.call_log.specs.Notes.{Note, call_note, load_note, end_note, stray_note}
 use Rattle.call_log.specs.Values.{note_value}
-use Rattle.machine_world.specs.Turns.{seen_of}
 use Rattle.memory_world.specs.Physical.{has_stray}
 use Rattle.kept_parts.specs.Noted.{first_noted}
 
@@ -48,10 +46,6 @@ stray_first (load_note load ∷ xs) = stray_first xs
 stray_first (end_note pid how ∷ xs) = stray_first xs
 stray_first (stray_note pid seen ∷ xs) = refl
 
-pub seen_some : (o : Option Access) → is_some o ≡ is_some (option_map seen_of o)
-seen_some None = refl
-seen_some (Some access) = refl
-
 -- behind notes that have none
 first_behind : (xs ys : List Note) → first_noted xs ≡ None → first_noted (xs ++ ys) ≡ first_noted ys
 first_behind [] ys none = refl
@@ -72,16 +66,16 @@ module _ (notes : List Stored) (i : ℕ) (d : Stored) (less : i < length notes) 
       let one : i + 1 ≡ suc i = omega arith in
       ap (λ (n : ℕ). take n notes) one ∙ take-suc notes i d less ∙ ap (λ (n : Stored). take i notes ++ n ∷ []) (sym is)
 
-  pub still_none : ((pid : ℕ) (seen : Seen) → d ≢ Stray pid seen) → first_noted (map note_value (take (i + 1) notes)) ≡ None
+  pub still_none : ((pid : ℕ) (seen : Access) → d ≢ Stray pid seen) → first_noted (map note_value (take (i + 1) notes)) ≡ None
   still_none other = ap (λ (xs : List Stored). first_noted (map note_value xs)) taken_next ∙ first_next [] ∙ by d other
     where
-      by : (n : Stored) → ((pid : ℕ) (seen : Seen) → n ≢ Stray pid seen) → first_noted (note_value n ∷ []) ≡ None
+      by : (n : Stored) → ((pid : ℕ) (seen : Access) → n ≢ Stray pid seen) → first_noted (note_value n ∷ []) ≡ None
       by (Call entry) other = refl
       by (Load pid program base pages) other = refl
       by (End pid how) other = refl
       by (Stray pid seen) other = absurd (other pid seen refl)
 
-  pub finds_first : (pid : ℕ) (seen : Seen) → d ≡ Stray pid seen → first_noted (map note_value notes) ≡ Some seen
+  pub finds_first : (pid : ℕ) (seen : Access) → d ≡ Stray pid seen → first_noted (map note_value notes) ≡ Some seen
   finds_first pid seen stray =
       let back : List Stored = drop (i + 1) notes in
       ap (λ (xs : List Stored). first_noted (map note_value xs)) (sym (take-append-drop (i + 1) notes) ∙ ap (λ (xs : List Stored). xs ++ back) taken_next ∙ append_assoc (take i notes) (d ∷ []) back)

@@ -3,8 +3,8 @@ use Rattle.std.proofs.Common.{◌≡◌, ◌≢◌, ℕ, ◌+◌, Bool, true, fa
 use Rattle.std.specs.Prelude.{if◌then◌else◌, ◌%◌, ◌==◌, option_map, Result, Ok, Err, slice_index}
 use Rattle.std.specs.declared.alloc.AllocError.{AllocError}
 use Rattle.byte_words.specs.ByteMap.{Bytes}
-use Rattle.rv32im_step.specs.declared.access.Access.{Access}
-use Rattle.rv32im_step.specs.declared.access.AccessKind.TheVariants as access_kind
+use Rattle.byte_words.specs.declared.access.Access.{Access}
+use Rattle.byte_words.specs.declared.access.AccessKind.TheVariants as access_kind
 use Rattle.rv32im_step.specs.Registers.{register}
 use Rattle.call_log.specs.declared.how.How.{How}
 use Rattle.call_log.specs.declared.how.How.TheVariants.{Exit, Signal}

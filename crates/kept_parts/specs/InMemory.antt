@@ -6,10 +6,9 @@ use Rattle.bflt_format.specs.Spelling.{spell}
 use Rattle.flat_loader.specs.Original.{header_len}
 use Rattle.region_watch.specs.Private.{physical}
 use Rattle.vfork_exec.specs.Procs.{process, Lives}
-use Rattle.rv32im_step.specs.declared.access.Access.{Access}
+use Rattle.byte_words.specs.declared.access.Access.{Access}
 use Rattle.call_log.specs.Notes.{stray_note}
 use Rattle.machine_world.specs.Event.{Outcome, called, stray_in}
-use Rattle.machine_world.specs.Turns.{seen_of}
 use Rattle.memory_world.specs.Physical.{Physical, After, after, no_room, nobody, carried, called_in, has_stray, with_stray, first_memory}
 use Rattle.kept_parts.specs.declared.reach.Reach.{Reach}
 use Rattle.kept_parts.specs.declared.reach.Reach.TheVariants.{Own, Whole}
@@ -105,7 +104,7 @@ called_on p pid = called_in (with_stray pid (first_range p pid) p) pid
 -- the parts with its note
 abbrev pub with_range : ℕ → Option Access → Kept → Kept
 with_range pid None k = k
-with_range pid (Some access) k = record k { notes = stray_note pid (seen_of access) ∷ k.notes }
+with_range pid (Some access) k = record k { notes = stray_note pid access ∷ k.notes }
 
 -- and without the newest note
 abbrev pub without_newest : Kept → Kept

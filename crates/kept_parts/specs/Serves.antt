@@ -1,13 +1,12 @@
 -- What a system call, a signal and a stray access leave.
 use Rattle.std.specs.Prelude.{◌≡◌, ℕ, Bool, true, false, Some, None, option_map, Result, Ok, Err, ⊤}
 use Rattle.std.specs.declared.alloc.AllocError.{AllocError}
-use Rattle.rv32im_step.specs.declared.access.Access.{Access}
+use Rattle.byte_words.specs.declared.access.Access.{Access}
 use Rattle.call_log.specs.Notes.{stray_note}
 use Rattle.vfork_exec.specs.declared.family.State.{State}
 use Rattle.vfork_exec.specs.declared.family.State.TheVariants.{Ready, Waiting, OnPipe, Lent}
 use Rattle.vfork_exec.specs.Procs.{Listed, process, state_at, Lives}
 use Rattle.machine_world.specs.Event.{Trace, Outcome, went, strays, full, idle, noted}
-use Rattle.machine_world.specs.Turns.{seen_of}
 use Rattle.kept_parts.specs.declared.served.Served.{Served}
 use Rattle.kept_parts.specs.declared.served.Served.TheVariants as served
 use Rattle.kept_parts.specs.Kept.{Kept}
@@ -91,5 +90,5 @@ Dies a outcome old new pid (Err error) = new ≡ old
 
 -- a stray access adds its note alone
 abbrev pub NotesStray : ℕ → Access → Kept → Kept → Result ⊤ AllocError → Type 0
-NotesStray pid access old new (Ok done) = (a : About) → world_of a new ≡ noted (stray_note pid (seen_of access)) (world_of a old)
+NotesStray pid access old new (Ok done) = (a : About) → world_of a new ≡ noted (stray_note pid access) (world_of a old)
 NotesStray pid access old new (Err error) = new ≡ old

@@ -1,19 +1,18 @@
 //! What a system call may read and write.
 
-ghost use Rattle.std.specs.Prelude.{◌≡◌, ◌≤◌, IfOk, length, map, option_map, slice_get, Some};
+ghost use Rattle.std.specs.Prelude.{◌≡◌, ◌≤◌, IfOk, length, map, slice_get, Some};
 ghost use Rattle.call_log.specs.Values.{note_value};
 ghost use Rattle.mmap_rules.specs.Held.{Held};
 ghost use Rattle.memory_world.specs.Physical.{has_stray};
-ghost use Rattle.machine_world.specs.Turns.{seen_of};
 ghost use Rattle.kept_parts.specs.Noted.{first_noted};
 ghost use Rattle.kept_parts.specs.Reach.{Reaches, whole_table};
 ghost use Rattle.kept_parts.specs.Regular.{HasSpace};
 
 use crate::home::home;
 use crate::kept::KeptParts;
-use call_log::{Note, Seen, SeenKind};
+use call_log::Note;
 use mmap_rules::{Owners, PageOwner};
-use rv32im_step::{Access, AccessKind};
+use rv32im_step::Access;
 use std::alloc::{AllocError, Global};
 
 /// Which bytes the instructions and the system calls of a process may read and write.
@@ -51,31 +50,13 @@ impl KeptParts {
     }
 }
 
-/// The access that was noted, as it was seen.
-fn accessed(seen: Seen) -> Access
-    ensures { seen_of result ≡ seen }
-{
-    let kind = match seen.kind {
-        SeenKind::Fetch => AccessKind::Fetch,
-        SeenKind::Load => AccessKind::Load,
-        SeenKind::Store => AccessKind::Store,
-        SeenKind::Call => AccessKind::Call,
-    };
-    Access {
-        pc: seen.pc,
-        addr: seen.addr,
-        len: seen.len,
-        kind,
-    }
-}
-
 /// The first stray access among notes that stand oldest first. It looks through them.
 pub fn first_stray(notes: &[Note]) -> Option<Access>
-    ensures { option_map seen_of result ≡ first_noted (map note_value notes.now) }
+    ensures { result ≡ first_noted (map note_value notes.now) }
 {
     for note in notes {
         if let Note::Stray { access, .. } = note {
-            return Some(accessed(*access));
+            return Some(*access);
         }
     }
     None

@@ -1,7 +1,6 @@
 //! A stray access.
 
 ghost use Rattle.std.specs.Prelude.{◌≡◌, IfOk, Some};
-ghost use Rattle.machine_world.specs.Turns.{seen_of};
 ghost use Rattle.memory_world.specs.Physical.{has_stray};
 ghost use Rattle.kept_parts.specs.InMemory.{with_range, without_newest};
 ghost use Rattle.kept_parts.specs.Regular.{IsRegular};
@@ -10,27 +9,9 @@ ghost use Rattle.kept_parts.specs.Serves.{NotesStray};
 use crate::keep::keep;
 use crate::kept::KeptParts;
 use crate::reach::has_stray;
-use call_log::{Note, Seen, SeenKind};
-use rv32im_step::{Access, AccessKind};
+use call_log::Note;
+use rv32im_step::Access;
 use std::alloc::AllocError;
-
-/// The access as it is noted.
-fn seen(access: Access) -> Seen
-    ensures { result ≡ seen_of access }
-{
-    let kind = match access.kind {
-        AccessKind::Fetch => SeenKind::Fetch,
-        AccessKind::Load => SeenKind::Load,
-        AccessKind::Store => SeenKind::Store,
-        AccessKind::Call => SeenKind::Call,
-    };
-    Seen {
-        pc: access.pc,
-        addr: access.addr,
-        len: access.len,
-        kind,
-    }
-}
 
 impl KeptParts {
     /// Whether a stray access was noted. It looks through the notes.
@@ -49,13 +30,7 @@ impl KeptParts {
         ensures files { self.new.files ≡ self.old.files }
     {
         self.log.reserve(1)?;
-        keep(
-            &mut self.log,
-            Note::Stray {
-                pid,
-                access: seen(access),
-            },
-        );
+        keep(&mut self.log, Note::Stray { pid, access });
         Ok(())
     }
 

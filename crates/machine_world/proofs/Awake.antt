@@ -10,7 +10,7 @@ use Rattle.vfork_exec.specs.declared.family.State.TheVariants.{Ready, Waiting, O
 use Rattle.vfork_exec.specs.Keyed.{find, Falls}
 use Rattle.vfork_exec.specs.Families.{is_child, is_lent_to, is_ready, roused}
 use Rattle.vfork_exec.proofs.Keyed.{find_map, falls_map}
-use Rattle.rv32im_step.specs.declared.access.Access.{Access}
+use Rattle.byte_words.specs.declared.access.Access.{Access}
 use Rattle.vfork_exec.specs.Procs.{most_entries}
 use Rattle.machine_world.specs.World.{Process, World, pid_of}
 use Rattle.machine_world.specs.Families.{MayRun, state_at, is_full, borrows, has_child, roused_by, all_roused, is_lent}

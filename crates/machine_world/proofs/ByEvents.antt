@@ -4,7 +4,7 @@ use Rattle.std.proofs.Common.{◌≡◌, ℕ, zero, suc, Bool, true, false, List
 use Rattle.std.specs.Prelude.{◌==◌, not, if◌then◌else◌}
 use Rattle.byte_words.specs.ByteMap.{Bytes}
 use Rattle.rv32im_step.specs.declared.regs.Regs.{Regs}
-use Rattle.rv32im_step.specs.declared.access.Access.{Access}
+use Rattle.byte_words.specs.declared.access.Access.{Access}
 use Rattle.rv32im_step.specs.Meaning.{Meaning, next, call, trap, refused, meaning}
 use Rattle.mmap_rules.specs.Space.{Space, writable_in}
 use Rattle.call_log.specs.declared.how.How.TheVariants.{Exit, Signal}
@@ -35,8 +35,8 @@ use Rattle.machine_world.specs.PathCalls.{path_of}
 use Rattle.machine_world.specs.FamilyCalls.{who_of, waitid_fault, child_info, no_info, info_at, vfork_flags, runs}
 use Rattle.machine_world.specs.Rows.{row}
 use Rattle.machine_world.specs.Recordings.{room_in}
-use Rattle.machine_world.specs.Event.{Trace, Outcome, went, strays, full, idle, with_space, with_state, counted, counted_in, noted, ended, stepped, trapped, number_of, args_of, replied, put_got, ask_of, entry_of, item_of, plain_item, replied_world, room_for, served, put, waited, answered, exit_code, exited, is_exit, reaped, told_in, waitid_behind, waitid, with_child, forked, cloned, with_exec, load_of, executed, exec_at, exec_program, exec_strings, exec, classed, asked, answer, awake, settled, effect, in_space, by_process, at_process, event}
-use Rattle.machine_world.specs.Turns.{Walk, End, seen_of, remains_at, traced, turned, turn, going_on, quantum_turn, turns}
+use Rattle.machine_world.specs.Event.{Trace, Outcome, went, strays, full, idle, with_space, with_state, counted, counted_in, noted, ended, stepped, trapped, number_of, args_of, put_got, ask_of, entry_of, item_of, plain_item, replied_world, room_for, served, put, waited, answered, exit_code, exited, is_exit, reaped, told_in, waitid_behind, waitid, with_child, forked, cloned, with_exec, load_of, executed, exec_at, exec_program, exec_strings, exec, classed, asked, answer, awake, settled, effect, in_space, by_process, at_process, event}
+use Rattle.machine_world.specs.Turns.{Walk, End, remains_at, traced, turned, turn, going_on, quantum_turn, turns}
 use Rattle.machine_world.proofs.Kept.{Answers}
 
 -- ---- an outcome
@@ -209,7 +209,7 @@ module _ (P : World → Trace → Type 0) (Q : Rest → Type 0) (wakes : (now : 
 abbrev pub Keeps : (World → Type 0) → Outcome → Type 0
 Keeps P = Went (λ now t. P now)
 
-module _ (P : World → Type 0) (events : (w : World) (pid : ℕ) → P w → Keeps P (event w pid)) (strayed : (w : World) (pid : ℕ) (access : Access) → P w → P (noted (stray_note pid (seen_of access)) w)) where
+module _ (P : World → Type 0) (events : (w : World) (pid : ℕ) → P w → Keeps P (event w pid)) (strayed : (w : World) (pid : ℕ) (access : Access) → P w → P (noted (stray_note pid access) w)) where
   by_turned : (more : World → Walk) (w : World) (pid : ℕ) (o : Outcome) → P w → Keeps P o → ((v : World) → P v → P (more v).world) → P (turned more w pid o).world
   by_turned more w pid (went now t) h kept on = over t.over
     where

@@ -10,12 +10,11 @@ use Rattle.rv32im_table.specs.Table.{decoded}
 use Rattle.rv32im_step.specs.Memory.{loaded, stored}
 use Rattle.rv32im_step.specs.Meaning.{effect, meaning}
 use Rattle.rv32im_step.specs.Registers.{register, with_register}
-use Rattle.rv32im_step.specs.declared.access.AccessKind.TheVariants.{Store}
+use Rattle.byte_words.specs.declared.access.AccessKind.TheVariants.{Store}
 use Rattle.page_runs.specs.declared.place.Kind.TheVariants.{First}
 use Rattle.page_runs.specs.Free.{free_runs}
 use Rattle.page_runs.specs.Place.{place}
 use Rattle.call_log.specs.declared.how.How.TheVariants.{Exit}
-use Rattle.call_log.specs.declared.how.SeenKind.TheVariants as seen
 use Rattle.call_log.specs.Errno.{refusal}
 use Rattle.call_log.specs.Notes.{Note, call_note, load_note, end_note, stray_note, has_room}
 use Rattle.call_log.specs.Sent.{sent, read_span}
@@ -161,7 +160,7 @@ run-stray :
     ≡ Some (record {
       console = [];
       notes = loaded_at 1 0 0x8000_0000 ∷ loaded_at 2 1 0x8000_2000
-          ∷ stray_note 1 (record { pc = 0x8000_0088; addr = 0x8000_2040; len = 1; kind = seen.Store }) ∷ [];
+          ∷ stray_note 1 (record { pc = 0x8000_0088; addr = 0x8000_2040; len = 1; kind = Store }) ∷ [];
       events = 2;
       end = Some (stray_at 1 (record { pc = 0x8000_0088; addr = 0x8000_2040; len = 1; kind = Store }));
     })

@@ -1,10 +1,10 @@
 -- Turns, event by event.
 use Rattle.std.proofs.Common.{◌≡◌, ℕ, zero, suc, ◌+◌, ◌-◌, ◌<◌, true, false, List, [], ◌∷◌, ◌++◌, Some, None, refl, sym, ap, ◌∙◌, arith, append_assoc}
-use Rattle.rv32im_step.specs.declared.access.Access.{Access}
+use Rattle.byte_words.specs.declared.access.Access.{Access}
 use Rattle.call_log.specs.Notes.{stray_note}
 use Rattle.machine_world.specs.World.{World}
 use Rattle.machine_world.specs.Event.{Trace, Outcome, went, strays, full, noted, event}
-use Rattle.machine_world.specs.Turns.{stray_at, log_full, Walk, seen_of, remains_at, turned, turn, walked}
+use Rattle.machine_world.specs.Turns.{stray_at, log_full, Walk, remains_at, turned, turn, walked}
 use Rattle.machine_world.specs.Courses.{Leads}
 
 pub walked_more : (xs ys : List Trace) (walk : Walk) → walked (xs ++ ys) walk ≡ walked xs (walked ys walk)
@@ -41,7 +41,7 @@ module _ (pid : ℕ) (w : World) where
   turn_over now t is over (suc n) some = turn_next n (went now t) is ∙ (rw over refl)
 
   pub turn_strays : (access : Access) → event w pid ≡ strays access → (n : ℕ) → 0 < n →
-      turn n pid w ≡ remains_at (noted (stray_note pid (seen_of access)) w) (Some (stray_at pid access))
+      turn n pid w ≡ remains_at (noted (stray_note pid access) w) (Some (stray_at pid access))
   turn_strays access is zero some = absurd (omega arith)
   turn_strays access is (suc n) some = turn_next n (strays access) is
 

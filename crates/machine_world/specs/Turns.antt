@@ -1,11 +1,6 @@
 -- A run: turns by a list of quanta.
 use Rattle.std.specs.Prelude.{ℕ, zero, suc, ◌==◌, if◌then◌else◌, List, [], ◌∷◌, ◌++◌, length, Option, Some, None}
-use Rattle.rv32im_step.specs.declared.access.Access.{Access}
-use Rattle.rv32im_step.specs.declared.access.AccessKind.{AccessKind}
-use Rattle.rv32im_step.specs.declared.access.AccessKind.TheVariants as access
-use Rattle.call_log.specs.declared.how.Seen.{Seen}
-use Rattle.call_log.specs.declared.how.SeenKind.{SeenKind}
-use Rattle.call_log.specs.declared.how.SeenKind.TheVariants as seen
+use Rattle.byte_words.specs.declared.access.Access.{Access}
 use Rattle.call_log.specs.Notes.{stray_note}
 use Rattle.quantum_sched.specs.declared.Quantum.{Quantum}
 use Rattle.quantum_sched.specs.Picked.{picked}
@@ -28,15 +23,6 @@ pub record Walk : Type 0 where
   pub traces : List Trace
   pub end : Option End
 
-abbrev pub seen_kind : AccessKind → SeenKind
-seen_kind access.Fetch = seen.Fetch
-seen_kind access.Load = seen.Load
-seen_kind access.Store = seen.Store
-seen_kind access.Call = seen.Call
-
-abbrev pub seen_of : Access → Seen
-seen_of a = record { pc = a.pc; addr = a.addr; len = a.len; kind = seen_kind a.kind }
-
 abbrev pub remains_at : World → Option End → Walk
 remains_at w end = record { world = w; traces = []; end = end }
 
@@ -46,7 +32,7 @@ traced t walk = record walk { traces = t ∷ walk.traces }
 -- after one event, unless the turn is over, those that are left
 abbrev pub turned : (World → Walk) → World → ℕ → Outcome → Walk
 turned more w pid (went now t) = traced t (if t.over then remains_at now None else more now)
-turned more w pid (strays a) = remains_at (noted (stray_note pid (seen_of a)) w) (Some (stray_at pid a))
+turned more w pid (strays a) = remains_at (noted (stray_note pid a) w) (Some (stray_at pid a))
 turned more w pid full = remains_at w (Some log_full)
 turned more w pid idle = remains_at w None
 

@@ -2,10 +2,9 @@
 use Rattle.std.proofs.Common.{◌≡◌, ℕ, Bool, true, false, List, [], Option, Some, None, Result, Ok, Err, refl}
 use Rattle.std.specs.Prelude.{◌==◌, if◌then◌else◌}
 use Rattle.byte_words.specs.ByteMap.{Bytes}
-use Rattle.rv32im_step.specs.declared.access.Access.{Access}
+use Rattle.byte_words.specs.declared.access.Access.{Access}
 use Rattle.rv32im_step.specs.Meaning.{Meaning, next, call, trap, refused}
 use Rattle.call_log.specs.declared.errno.Errno.{Errno}
-use Rattle.call_log.specs.declared.how.Seen.{Seen}
 use Rattle.call_log.specs.Errno.{refusal}
 use Rattle.call_log.specs.Notes.{GotRange, stray_note}
 use Rattle.call_log.specs.Sent.{Span, sent}
@@ -24,7 +23,6 @@ use Rattle.machine_world.specs.Asks.{Ask, Reply, Row, replies, waits, arg, gives
 use Rattle.machine_world.specs.FamilyCalls.{who_of, waitid_fault, child_info, no_info, info_at}
 use Rattle.machine_world.specs.Rows.{row}
 use Rattle.machine_world.specs.Event.{Outcome, went, strays, full, idle, noted, trapped, room_for, served, waited, told_in, ask_of, classed, awake}
-use Rattle.machine_world.specs.Turns.{seen_of}
 use Rattle.machine_world.proofs.Kept.{Answers}
 use Rattle.machine_world.proofs.ByEvents.{Keeps, Answered, Happened, by_classed}
 use Rattle.memory_world.specs.Physical.{Physical, in_memory, showing, laid_behind, After, after, no_room, nobody, carried, settled_in, outside, killed, put_in, answered_in, full_at, reaped_in, waitid_behind_in, waitid_in, writes_nothing, classed_in, asked_in, answer_in, effect_in, in_space_in, by_process_in, at_process_in, next_meaning, carried_out, first_stray_in, with_stray, event_in}
@@ -42,7 +40,7 @@ keeps_test P false o h = tt
 pub record Steady (P : World → Type 0) (Q : World → Rest → Type 0) : Type 0 where
   pub wakes : (now : World) → P now → P (awake now)
   pub shows : (memory : Bytes) (now : World) → P now → P (showing memory now)
-  pub strays : (pid : ℕ) (seen : Seen) (now : World) → P now → P (noted (stray_note pid seen) now)
+  pub strays : (pid : ℕ) (seen : Access) (now : World) → P now → P (noted (stray_note pid seen) now)
   pub reaps : (ended : List Ended) (now : World) → P now → P (record now { ended = ended })
   pub acts : (w : World) (q : Process) (s : Space) → P w → Happened (λ now t. P now) (Q w) w q s
   pub rests : (w : World) → P w → Q w w.rest
@@ -168,7 +166,7 @@ module _ (P : World → Type 0) (Q : World → Rest → Type 0) (steady : Steady
 
   by_stray_in : (p : Physical) (pid : ℕ) (o : Option Access) → P p.world → P (with_stray pid o p).world
   by_stray_in p pid None h = h
-  by_stray_in p pid (Some access) h = steady.strays pid (seen_of access) p.world h
+  by_stray_in p pid (Some access) h = steady.strays pid access p.world h
 
   pub by_event_in : (p : Physical) (pid : ℕ) → P p.world → AfterHas P (event_in p pid)
   unfolding event_in carried_out

@@ -3,7 +3,7 @@ use Rattle.std.proofs.Common.{◌≡◌, ℕ, ◌+◌, Bool, true, false, List, 
 use Rattle.std.specs.Prelude.{option_map, if◌then◌else◌}
 use Rattle.byte_words.specs.ByteMap.{Bytes}
 use Rattle.rv32im_step.specs.declared.regs.Regs.{Regs}
-use Rattle.rv32im_step.specs.declared.access.Access.{Access}
+use Rattle.byte_words.specs.declared.access.Access.{Access}
 use Rattle.rv32im_step.specs.Meaning.{Meaning, next, call, trap, refused, meaning}
 use Rattle.call_log.specs.Notes.{stray_note}
 use Rattle.mmap_rules.specs.Space.{Space, own_in, writable_in}
@@ -12,7 +12,6 @@ use Rattle.vfork_exec.specs.Keyed.{find, change}
 use Rattle.vfork_exec.proofs.Keyed.{find_map, change_map}
 use Rattle.machine_world.specs.World.{Process, LiveSpace, World, pid_of, id_of}
 use Rattle.machine_world.specs.Event.{noted, effect, stepped, stray_in, stray}
-use Rattle.machine_world.specs.Turns.{seen_of}
 use Rattle.machine_world.specs.Courses.{moved}
 use Rattle.machine_world.specs.Recordings.{is_recorded}
 use Rattle.machine_world.proofs.Raised.{raised_twice}
@@ -116,7 +115,7 @@ unfolding event_in
 event_in_carried p pid = refl
 
 pub event_in_strays : (p : Physical) (pid : ℕ) (access : Access) → first_stray_in p pid ≡ Some access
-    → event_in p pid ≡ carried_out (record p { world = noted (stray_note pid (seen_of access)) p.world }) pid
+    → event_in p pid ≡ carried_out (record p { world = noted (stray_note pid access) p.world }) pid
 event_in_strays p pid access is = event_in_carried p pid ∙ ap (λ (o : Option Access). carried_out (with_stray pid o p) pid) is
 
 pub event_in_calm : (p : Physical) (pid : ℕ) → first_stray_in p pid ≡ None → event_in p pid ≡ carried_out p pid

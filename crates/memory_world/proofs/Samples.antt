@@ -15,7 +15,7 @@ use Rattle.page_runs.specs.declared.place.Kind.TheVariants.{First}
 use Rattle.page_runs.specs.Free.{free_runs}
 use Rattle.page_runs.specs.Place.{place}
 use Rattle.call_log.specs.declared.how.How.TheVariants.{Signal}
-use Rattle.call_log.specs.declared.how.SeenKind.TheVariants as seen
+use Rattle.byte_words.specs.declared.access.AccessKind.TheVariants as access
 use Rattle.call_log.specs.Errno.{refusal}
 use Rattle.call_log.specs.Notes.{Note, call_note, load_note, end_note, stray_note, has_room}
 use Rattle.call_log.specs.Sent.{sent, read_span}
@@ -146,7 +146,7 @@ run-stray_store :
     ≡ Some (record {
       console = [];
       notes = loaded_at 1 0 0x8000_0000 ∷ loaded_at 2 1 0x8000_2000
-          ∷ stray_note 1 (record { pc = 0x8000_0088; addr = 0x8000_2040; len = 1; kind = seen.Store }) ∷ [];
+          ∷ stray_note 1 (record { pc = 0x8000_0088; addr = 0x8000_2040; len = 1; kind = access.Store }) ∷ [];
       events = 3;
       bytes = Some 80 ∷ Some 81 ∷ Some 0x7a ∷ None ∷ [];
       own = None ∷ None ∷ Some 0x7a ∷ None ∷ [];
@@ -160,7 +160,7 @@ run-outside_memory :
     run (0x8000_0000 ∷ []) (q 0 9 ∷ []) (boot (rest_of 4 (at_zero ∷ [])) (start 3 (codes "/a") ∷ []))
     ≡ Some (record {
       console = [];
-      notes = loaded_at 1 0 0x8000_0000 ∷ stray_note 1 (record { pc = 0x8000_0080; addr = 0; len = 4; kind = seen.Store }) ∷ end_note 1 (Signal 11) ∷ [];
+      notes = loaded_at 1 0 0x8000_0000 ∷ stray_note 1 (record { pc = 0x8000_0080; addr = 0; len = 4; kind = access.Store }) ∷ end_note 1 (Signal 11) ∷ [];
       events = 1;
       bytes = Some 80 ∷ [];
       own = None ∷ [];
@@ -175,7 +175,7 @@ run-one_note :
     ≡ Some (record {
       console = [];
       notes = loaded_at 1 0 0x8000_0000 ∷ loaded_at 2 1 0x8000_2000
-          ∷ stray_note 1 (record { pc = 0x8000_0088; addr = 0x8000_2040; len = 1; kind = seen.Store }) ∷ [];
+          ∷ stray_note 1 (record { pc = 0x8000_0088; addr = 0x8000_2040; len = 1; kind = access.Store }) ∷ [];
       events = 5;
       bytes = Some 0x7a ∷ [];
       own = Some 0x7a ∷ [];
@@ -192,7 +192,7 @@ abbrev unmaps_page : Note
 unmaps_page = call_note (record { pid = 1; call = 215; args = 0x8000_2000 ∷ 0x1000 ∷ 3 ∷ 0x22 ∷ 0xffff_ffff ∷ 0 ∷ []; sent = []; reply = 0; got = [] })
 
 abbrev stray_behind : Note
-stray_behind = stray_note 1 (record { pc = 0x8000_00a8; addr = 0x8000_2001; len = 1; kind = seen.Store })
+stray_behind = stray_note 1 (record { pc = 0x8000_00a8; addr = 0x8000_2001; len = 1; kind = access.Store })
 
 -- a page that was given back keeps its bytes, and is written by who doesn't own it
 run-freed_page :
@@ -228,7 +228,7 @@ run-stray_calls :
     ≡ Some (record {
       console = 3 ∷ 0 ∷ 0 ∷ 0 ∷ [];
       notes = loaded_at 1 0 0x8000_0000 ∷ loaded_at 2 1 0x8000_2000
-          ∷ stray_note 1 (record { pc = 0x8000_008c; addr = 0x8000_2040; len = 8; kind = seen.Call })
+          ∷ stray_note 1 (record { pc = 0x8000_008c; addr = 0x8000_2040; len = 8; kind = access.Call })
           ∷ call_note (record { pid = 1; call = 59; args = 0x8000_2040 ∷ 0 ∷ 0 ∷ 0 ∷ 0 ∷ 0 ∷ []; sent = []; reply = 0; got = record { addr = 0x8000_2040; bytes = 3 ∷ 0 ∷ 0 ∷ 0 ∷ 4 ∷ 0 ∷ 0 ∷ 0 ∷ [] } ∷ [] })
           ∷ call_note (record { pid = 1; call = 64; args = 1 ∷ 0x8000_2040 ∷ 4 ∷ 0 ∷ 0 ∷ 0 ∷ []; sent = 3 ∷ 0 ∷ 0 ∷ 0 ∷ []; reply = 4; got = [] }) ∷ [];
       events = 9;

@@ -2,7 +2,7 @@
 -- carried out, whoever owns the bytes (Linux, "No-MMU memory mapping support": without an MMU an address is what it says).
 use Rattle.std.specs.Prelude.{ℕ, zero, suc, ◌+◌, ◌-◌, ◌*◌, ◌/◌, ◌==◌, Bool, true, false, not, ◌&&◌, ◌||◌, nat_le, nat_lt, if◌then◌else◌, List, [], ◌∷◌, map, slice_get, Option, Some, None, Result, Ok, Err}
 use Rattle.byte_words.specs.ByteMap.{Bytes, with_bytes}
-use Rattle.rv32im_step.specs.declared.access.Access.{Access}
+use Rattle.byte_words.specs.declared.access.Access.{Access}
 use Rattle.rv32im_step.specs.declared.regs.Regs.{Regs}
 use Rattle.rv32im_step.specs.Meaning.{Meaning, next, call, trap, refused, meaning}
 use Rattle.call_log.specs.declared.errno.Errno.{Errno}
@@ -28,7 +28,7 @@ use Rattle.machine_world.specs.FamilyCalls.{who_of, waitid_fault, child_info, no
 use Rattle.machine_world.specs.Rows.{row}
 use Rattle.machine_world.specs.Event.{Begins, Trace, Outcome, went, strays, full, idle, with_space, noted, trapped, ask_of, served, waited, told_in, is_exit, classed, awake, stray}
 use Rattle.machine_world.specs.Recordings.{passed}
-use Rattle.machine_world.specs.Turns.{End, log_full, seen_of, none_runs, last_end}
+use Rattle.machine_world.specs.Turns.{End, log_full, none_runs, last_end}
 
 -- a world whose spaces have, as bytes of their own, what the one memory has in their own ranges; that memory; and the first 64 bytes of
 -- each program's flat file
@@ -219,7 +219,7 @@ first_stray_in p pid = if has_stray p.world.notes then None else stray p.world p
 -- it is noted before all other notes of its event
 abbrev pub with_stray : ℕ → Option Access → Physical → Physical
 with_stray pid None p = p
-with_stray pid (Some access) p = record p { world = noted (stray_note pid (seen_of access)) p.world }
+with_stray pid (Some access) p = record p { world = noted (stray_note pid access) p.world }
 
 unfoldable pub event_in : Physical → ℕ → After
 event_in p pid = carried_out (with_stray pid (first_stray_in p pid) p) pid

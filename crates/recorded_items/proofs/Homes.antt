@@ -4,7 +4,7 @@ use Rattle.std.specs.Prelude.{◌==◌, ◌&&◌, nat_eq, if◌then◌else◌}
 use Rattle.std.specs.List.{list_any}
 use Rattle.call_log.specs.Notes.{CallEntry, LoadEntry, Note, call_note, load_note, end_note, stray_note}
 use Rattle.call_log.specs.declared.how.How.{How}
-use Rattle.call_log.specs.declared.how.Seen.{Seen}
+use Rattle.byte_words.specs.declared.access.Access.{Access}
 use Rattle.indexmap.specs.IndexSet.{IndexSet, IsEmpty}
 use Rattle.recording_laws.specs.Homes.{forks, loads_in, home, is_in}
 use Rattle.recorded_items.specs.Members.{is_member, Puts, Follow}
@@ -49,7 +49,7 @@ module _ {S : Type 0} (space own count : ℕ) (pids : IndexSet ℕ S) (notes : L
   unfolding loads_in home
   after_end pid how = record { same = f.same; loads = f.loads; homes = f.homes }
 
-  pub after_stray : (pid : ℕ) (seen : Seen) → Follow space own count pids (stray_note pid seen ∷ notes)
+  pub after_stray : (pid : ℕ) (seen : Access) → Follow space own count pids (stray_note pid seen ∷ notes)
   unfolding loads_in home
   after_stray pid seen = record { same = f.same; loads = f.loads; homes = f.homes }
 

@@ -5,7 +5,7 @@ use Rattle.std.specs.List.{AllByRecursion}
 use Rattle.byte_words.specs.ByteMap.{Bytes}
 use Rattle.rv32im_step.specs.Meaning.{Meaning, next, call, trap, refused, meaning}
 use Rattle.call_log.specs.declared.errno.Errno.{Errno}
-use Rattle.call_log.specs.declared.how.Seen.{Seen}
+use Rattle.byte_words.specs.declared.access.Access.{Access}
 use Rattle.call_log.specs.Errno.{refusal}
 use Rattle.call_log.specs.Notes.{GotRange, stray_note, weight_of}
 use Rattle.call_log.specs.Strings.{ProgramStrings, program_strings}
@@ -201,5 +201,5 @@ readable_event ys w pid now t sound may are is =
     }
 
 -- a stray access is noted
-pub readable_stray : (ys : List Stay) (w : World) (pid : ℕ) (seen : Seen) → AreReadable ys w → AreReadable ys (noted (stray_note pid seen) w)
+pub readable_stray : (ys : List Stay) (w : World) (pid : ℕ) (seen : Access) → AreReadable ys w → AreReadable ys (noted (stray_note pid seen) w)
 readable_stray ys w pid seen are = record { loads = are.loads; notes = (tt, are.notes) }

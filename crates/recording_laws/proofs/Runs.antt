@@ -5,7 +5,7 @@ use Rattle.std.proofs.lemmas.Bool.{cases_Bool}
 use Rattle.std.proofs.lemmas.Bool.Decides.{nat_tests}
 use Rattle.std.proofs.lemmas.List.{append-nil}
 use Rattle.std.proofs.Common.{append_assoc}
-use Rattle.call_log.specs.declared.how.Seen.{Seen}
+use Rattle.byte_words.specs.declared.access.Access.{Access}
 use Rattle.call_log.specs.Notes.{CallEntry, stray_note}
 use Rattle.vfork_exec.specs.declared.family.State.TheVariants.{Ready}
 use Rattle.vfork_exec.specs.Keyed.{find}
@@ -33,7 +33,7 @@ use Rattle.recording_laws.proofs.Events.{events_record}
 -- ---- turns and runs
 
 -- a stray access is noted
-recorded_stray : (ys : List Stay) (w : World) (pid : ℕ) (seen : Seen) → AreRecorded ys w → AreRecorded ys (noted (stray_note pid seen) w)
+recorded_stray : (ys : List Stay) (w : World) (pid : ℕ) (seen : Access) → AreRecorded ys w → AreRecorded ys (noted (stray_note pid seen) w)
 unfolding loads_in home calls_at
 recorded_stray ys w pid seen told = record {
   home = record { count = told.home.count; loads = told.home.loads; homes = told.home.homes; calls = told.home.calls };

@@ -1,6 +1,6 @@
 -- Along turns and runs as many numbers are given as calls are noted, at most.
 use Rattle.std.proofs.Common.{◌≡◌, ℕ, Bool, true, false, List, [], ◌∷◌, length, Option, Some, None, Result, Ok, Err, refl, ap, subst, ◌∙◌, arith}
-use Rattle.rv32im_step.specs.declared.access.Access.{Access}
+use Rattle.byte_words.specs.declared.access.Access.{Access}
 use Rattle.call_log.specs.Notes.{stray_note}
 use Rattle.flat_loader.specs.Original.{block_pages}
 use Rattle.flat_loader.specs.Frame.{frame_fits}
@@ -10,7 +10,7 @@ use Rattle.machine_world.specs.World.{World}
 use Rattle.machine_world.specs.Ages.{kept_calls}
 use Rattle.machine_world.specs.Free.{free}
 use Rattle.machine_world.specs.Event.{Outcome, went, strays, full, idle, noted, event}
-use Rattle.machine_world.specs.Turns.{seen_of, turns}
+use Rattle.machine_world.specs.Turns.{turns}
 use Rattle.machine_world.specs.Boot.{StartLine, BootFault, Found, found, start_path, taken, placed, fitting, located, started, then_started, all_started, empty_world, boot}
 use Rattle.machine_world.specs.Order.{IsCounted}
 use Rattle.machine_world.proofs.ByEvents.{Went, Keeps, by_turn, by_turns}
@@ -37,7 +37,7 @@ module _ (u : World) where
       on full k = tt
       on idle k = tt
 
-  gives_strays : (w : World) (pid : ℕ) (access : Access) → GivesNumbers u w → GivesNumbers u (noted (stray_note pid (seen_of access)) w)
+  gives_strays : (w : World) (pid : ℕ) (access : Access) → GivesNumbers u w → GivesNumbers u (noted (stray_note pid access) w)
   gives_strays w pid access h = record { nodes = h.nodes; pipes = h.pipes }
 
 pub turns_give_numbers : TurnsGiveNumbers

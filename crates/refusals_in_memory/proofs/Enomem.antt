@@ -1,7 +1,7 @@
 -- Over one memory a call is answered ENOMEM exactly for want of a run.
 use Rattle.std.proofs.Common.{◌≡◌, ℕ, Bool, true, false, inl, inr, List, [], ◌∷◌, ◌++◌, Option, Some, None, Result, refl, sym, ap, ◌∙◌}
 use Rattle.std.specs.Prelude.{option_map, if◌then◌else◌}
-use Rattle.rv32im_step.specs.declared.access.Access.{Access}
+use Rattle.byte_words.specs.declared.access.Access.{Access}
 use Rattle.call_log.specs.declared.errno.Errno.{Errno}
 use Rattle.call_log.specs.declared.errno.Errno.TheVariants.{Enomem, Enametoolong}
 use Rattle.call_log.specs.Errno.{refusal}
@@ -15,7 +15,6 @@ use Rattle.machine_world.specs.Rows.{row}
 use Rattle.machine_world.specs.MapCalls.{own_run, maps as maps_to, or_own, mapped, mmap2_row}
 use Rattle.machine_world.specs.Recordings.{room_in}
 use Rattle.machine_world.specs.Event.{Trace, went, full, entry_of, answered, exec_at, exec_fitting, exec_program, exec_strings, exec}
-use Rattle.machine_world.specs.Turns.{seen_of}
 use Rattle.machine_world.proofs.Refused.{is_refused}
 use Rattle.alone_laws.proofs.RowSpaces.{row-mmap2}
 use Rattle.refusal_laws.specs.NoRun.{LacksRunToMap, LacksRunToExec, LacksRun}
@@ -61,7 +60,7 @@ room_if p false now t left over is = absurd cc
 -- the note of the run's first stray access, if the event has it
 earlier_notes : ℕ → Option Access → List Note
 earlier_notes pid None = []
-earlier_notes pid (Some access) = stray_note pid (seen_of access) ∷ []
+earlier_notes pid (Some access) = stray_note pid access ∷ []
 
 earlier_are : (p : Physical) (pid : ℕ) (o : Option Access) → (with_stray pid o p).world.notes ≡ earlier_notes pid o ++ p.world.notes
 unfolding earlier_notes

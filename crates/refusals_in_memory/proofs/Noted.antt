@@ -2,10 +2,9 @@
 use Rattle.std.proofs.Common.{◌≡◌, ℕ, false, List, [], ◌∷◌, ◌++◌, Option, Some, None, refl, sym, subst, ◌∙◌, append_assoc}
 use Rattle.std.specs.List.{AllByRecursion}
 use Rattle.std.proofs.lemmas.List.{append_cancel_right}
-use Rattle.rv32im_step.specs.declared.access.Access.{Access}
+use Rattle.byte_words.specs.declared.access.Access.{Access}
 use Rattle.call_log.specs.Notes.{CallEntry, Note, call_note, load_note, end_note, stray_note}
 use Rattle.flat_loader.specs.Alone.{is_errno}
-use Rattle.machine_world.specs.Turns.{seen_of}
 use Rattle.memory_world.specs.Physical.{Physical, with_stray}
 use Rattle.refusal_laws.proofs.Lists.{each_append}
 
@@ -33,7 +32,7 @@ adds_none P notes = record { more = []; is = refl; each = tt }
 pub adds_stray : (P : CallEntry → Type 0) (p : Physical) (pid : ℕ) (o : Option Access) (now : List Note) → Adds P (with_stray pid o p).world.notes now → Adds P p.world.notes now
 adds_stray P p pid None now h = h
 adds_stray P p pid (Some access) now h =
-    let stray : List Note = stray_note pid (seen_of access) ∷ [] in
+    let stray : List Note = stray_note pid access ∷ [] in
     record { more = h.more ++ stray; is = h.is ∙ sym (append_assoc h.more stray p.world.notes); each = each_append (OfCall P) h.more stray h.each (tt, tt) }
 
 -- of a call that is among them

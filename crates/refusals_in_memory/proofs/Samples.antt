@@ -9,7 +9,7 @@ use Rattle.rv32im_step.specs.Meaning.{effect, meaning}
 use Rattle.rv32im_step.specs.Registers.{register, with_register}
 use Rattle.page_runs.specs.Free.{free_runs}
 use Rattle.page_runs.specs.Place.{place}
-use Rattle.call_log.specs.declared.how.SeenKind.TheVariants as seen
+use Rattle.byte_words.specs.declared.access.AccessKind.TheVariants as access
 use Rattle.call_log.specs.Errno.{refusal}
 use Rattle.call_log.specs.Notes.{Note, stray_note, has_room}
 use Rattle.call_log.specs.Sent.{sent}
@@ -35,7 +35,7 @@ asking notes = record { world = record (world 1 222 asks_page) { notes = notes }
 
 -- a load that strayed
 abbrev strayed : List Note
-strayed = stray_note 1 (record { pc = 2 ^ 31 + 60; addr = 0; len = 4; kind = seen.Load }) ∷ []
+strayed = stray_note 1 (record { pc = 2 ^ 31 + 60; addr = 0; len = 4; kind = access.Load }) ∷ []
 
 without_run : IsWithoutRunIn (asking []) 1
 unfolding number_at byte_in decoded opcode funct3 funct7 rd rs1 rs2 imm_i loaded effect meaning register with_register sent writable_in find change refusal is_errno has_room wanted view with_table free_runs_in free_runs place row mmap2_row served answer private_process event stray settled all_roused

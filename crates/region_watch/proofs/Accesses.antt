@@ -12,7 +12,7 @@ use Rattle.byte_words.specs.Patches.{laid}
 use Rattle.byte_words.proofs.ByteArrays.{byte_at, byte_before, byte_past, number_within, length-little_bytes}
 use Rattle.byte_words.proofs.Laid.{length-overwritten}
 use Rattle.byte_words.proofs.ByteArrays.{laid_little, byte_of-laid}
-use Rattle.rv32im_step.specs.declared.access.Access.{Access}
+use Rattle.byte_words.specs.declared.access.Access.{Access}
 use Rattle.rv32im_table.specs.Table.{decoded}
 use Rattle.rv32im_step.specs.Meaning.{decoded_at}
 use Rattle.rv32im_step.specs.Memory.{loaded, all_writable, stored}

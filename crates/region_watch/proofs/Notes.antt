@@ -1,7 +1,7 @@
 -- The first stray access after one more access.
 use Rattle.std.proofs.Common.{◌≡◌, Bool, true, refl}
 use Rattle.std.specs.Prelude.{Option, Some, None}
-use Rattle.rv32im_step.specs.declared.access.Access.{Access}
+use Rattle.byte_words.specs.declared.access.Access.{Access}
 use Rattle.region_watch.specs.Strays.{stray_after}
 
 -- one that is allowed isn't noted

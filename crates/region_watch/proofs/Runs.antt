@@ -6,7 +6,7 @@ use Rattle.rv32im_step.specs.declared.stop.Stop.{Stop}
 use Rattle.rv32im_step.specs.declared.stop.Stop.TheVariants.{Next}
 use Rattle.rv32im_step.specs.Meaning.{Meaning, next, call, trap, refused, meaning, Means}
 use Rattle.mmap_rules.specs.declared.page_owner.PageOwner.{PageOwner}
-use Rattle.rv32im_step.specs.declared.access.Access.{Access}
+use Rattle.byte_words.specs.declared.access.Access.{Access}
 use Rattle.rv32im_step.specs.Asked.{Asked, asked}
 use Rattle.region_watch.specs.declared.mode.Mode.{Mode}
 use Rattle.region_watch.specs.Private.{passes, passed_bytes, kept_bytes}

@@ -2,9 +2,9 @@
 -- word is this project's; RISC-V unprivileged ISA, "Memory", has the execution environment say what a program may access.
 use Rattle.std.specs.Prelude.{◌≡◌, ℕ, Bool, true, false, if◌then◌else◌, Option, Some, None, List, [], ◌∷◌, ◌++◌}
 use Rattle.std.proofs.Common.{refl, ap, sym, ◌∙◌}
-use Rattle.rv32im_step.specs.declared.access.Access.{Access}
-use Rattle.rv32im_step.specs.declared.access.AccessKind.{AccessKind}
-use Rattle.rv32im_step.specs.declared.access.AccessKind.TheVariants.{Store, Call}
+use Rattle.byte_words.specs.declared.access.Access.{Access}
+use Rattle.byte_words.specs.declared.access.AccessKind.{AccessKind}
+use Rattle.byte_words.specs.declared.access.AccessKind.TheVariants.{Store, Call}
 use Rattle.rv32im_step.specs.declared.stop.Stop.{Stop}
 use Rattle.rv32im_step.specs.declared.stop.Stop.TheVariants.{Refused}
 use Rattle.rv32im_step.specs.Asked.{Asked}

@@ -1,6 +1,6 @@
 -- What a watch has seen.
 use Rattle.std.specs.Prelude.{Option}
-use Rattle.rv32im_step.specs.declared.access.Access.{Access}
+use Rattle.byte_words.specs.declared.access.Access.{Access}
 use Rattle.region_watch.specs.declared.watch.Watch.{Watch}
 
 -- the first stray access

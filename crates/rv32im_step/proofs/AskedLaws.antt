@@ -2,7 +2,7 @@
 use Rattle.std.proofs.Common.{◌≡◌, ℕ, Bool, List, [], ◌++◌, ◌∙◌, ap, sym, refl}
 use Rattle.std.specs.Prelude.{Option, Result, Ok, Err}
 use Rattle.rv32im_table.specs.declared.instr.Instr.{Instr}
-use Rattle.rv32im_step.specs.declared.access.Access.{Access}
+use Rattle.byte_words.specs.declared.access.Access.{Access}
 use Rattle.rv32im_step.specs.declared.regs.Regs.{Regs}
 use Rattle.rv32im_step.specs.Asked.{Asked, reads, decoded_asked, fetched_asked, asked}
 use Rattle.byte_words.specs.ByteMap.{Bytes}

@@ -4,7 +4,7 @@ use Rattle.std.specs.Prelude.{true, ◌&&◌, nat_le, is_some, Option, Some, Non
 use Rattle.std.proofs.lemmas.Bool.Decides.{nat_tests}
 use Rattle.byte_words.specs.ByteMap.{Bytes, with_low, number, little_bytes, byte_of, place_of, little, overwritten}
 use Rattle.byte_words.proofs.ByteArrays.{number_before, number_past, number_within, byte_of-overwritten, length-little_bytes, place_is}
-use Rattle.rv32im_step.specs.declared.access.Access.{Access}
+use Rattle.byte_words.specs.declared.access.Access.{Access}
 use Rattle.rv32im_step.specs.ByteBus.{writable_of}
 use Rattle.rv32im_step.specs.Memory.{reading, all_writable, stored}
 

@@ -4,7 +4,7 @@ use Rattle.std.specs.Prelude.{ℕ, Bool, is_ok, Option, Some, None, Result, Ok, 
 use Rattle.rv32im_table.specs.declared.instr.Instr.{Instr}
 use Rattle.rv32im_table.specs.declared.instr.Instr.TheVariants.{Lb, Lh, Lw, Lbu, Lhu, Sb, Sh, Sw}
 use Rattle.rv32im_table.specs.Table.{decoded}
-use Rattle.rv32im_step.specs.declared.access.Access.{Access}
+use Rattle.byte_words.specs.declared.access.Access.{Access}
 use Rattle.rv32im_step.specs.declared.regs.Regs.{Regs}
 use Rattle.rv32im_step.specs.Integer.{add}
 use Rattle.byte_words.specs.ByteMap.{Bytes}

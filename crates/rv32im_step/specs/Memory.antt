@@ -2,8 +2,8 @@
 -- Instructions". Numbers are little-endian, and an access of any alignment is one access.
 use Rattle.std.specs.Prelude.{ℕ, zero, suc, ◌+◌, ◌^◌, Bool, true, ◌&&◌, nat_le, is_some, if◌then◌else◌, Option, Some, None, Result, Ok, Err}
 use Rattle.byte_words.specs.ByteMap.{Bytes, number, little_bytes, with_bytes}
-use Rattle.rv32im_step.specs.declared.access.Access.{Access}
-use Rattle.rv32im_step.specs.declared.access.AccessKind.TheVariants.{Fetch, Load, Store}
+use Rattle.byte_words.specs.declared.access.Access.{Access}
+use Rattle.byte_words.specs.declared.access.AccessKind.TheVariants.{Fetch, Load, Store}
 
 abbrev pub fetch_of : ℕ → Access
 fetch_of pc = record { pc = pc; addr = pc; len = 4; kind = Fetch }

@@ -7,7 +7,7 @@ ghost use Rattle.byte_words.specs.ByteMap.{Bytes};
 ghost use Rattle.rv32im_step.specs.Memory.{fetch_of, load_of, store_of, loaded, stored};
 ghost use Rattle.rv32im_step.specs.Meaning.{decoded_at};
 
-use crate::access::Access;
+use byte_words::Access;
 use rv32im_table::Instr;
 
 /// Memory as a step sees it: a map of bytes, some of which may be written. An access goes to all its

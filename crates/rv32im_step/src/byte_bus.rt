@@ -8,11 +8,11 @@ ghost use Rattle.rv32im_step.specs.Meaning.{Means, meaning};
 ghost use Rattle.rv32im_step.specs.Memory.{reading};
 ghost use Rattle.byte_words.specs.ByteMap.{little_bytes};
 
-use crate::access::{Access, AccessKind};
 use crate::bus::Bus;
 use crate::hart::step;
 use crate::regs::Regs;
 use crate::stop::Stop;
+use byte_words::{Access, AccessKind};
 use rv32im_table::{Instr, decode};
 
 /// A bus over one array: its bytes stand from address `base` on. Those below 2^32 may all be written; no

@@ -4,7 +4,6 @@
 //! no memory but the plain one of `ByteBus`.
 #![tactic(auto)]
 
-mod access;
 mod bus;
 mod byte_bus;
 mod hart;
@@ -16,9 +15,9 @@ mod regs;
 mod stop;
 mod transfer;
 
-pub use access::{Access, AccessKind};
 pub use bus::Bus;
 pub use byte_bus::{ByteBus, step_in};
+pub use byte_words::{Access, AccessKind};
 pub use hart::{step, step_at};
 pub use laws::bytes_law;
 pub use regs::{RegisterFile, Regs};

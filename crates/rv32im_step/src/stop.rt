@@ -1,6 +1,6 @@
 //! How one step ended.
 
-use crate::access::Access;
+use byte_words::Access;
 
 /// How one step ended. Only after `Next` have registers or memory changed.
 #[derive(Clone, Copy, PartialEq, Eq)]

@@ -3,7 +3,6 @@ use Rattle.std.specs.Prelude.{ℕ, List, [], ◌∷◌, ◌++◌, map, codes, de
 use Rattle.std.specs.List.{flat_map}
 use Rattle.call_log.specs.Lines.{kind_text}
 use Rattle.manifest_text.specs.declared.manifest.WatchLine.{WatchLine}
-use Rattle.machine_world.specs.Turns.{seen_kind}
 use Rattle.watch_points.specs.declared.point.PointKind.{PointKind}
 use Rattle.watch_points.specs.declared.span.Span.{Span}
 use Rattle.watch_points.specs.declared.hits.Hit.{Hit}
@@ -18,7 +17,7 @@ span_of l = record { addr = l.addr; len = l.len }
 abbrev pub hit_line : Hit → List ℕ
 hit_line h = joined
     (codes "hit " ∷ decimal h.pid ∷ codes " pc " ∷ address_words h.access.pc ∷ codes " addr " ∷ address_words h.access.addr
-    ∷ codes " len " ∷ decimal h.access.len ∷ codes " " ∷ kind_text (seen_kind h.access.kind) ∷ codes "\n" ∷ [])
+    ∷ codes " len " ∷ decimal h.access.len ∷ codes " " ∷ kind_text h.access.kind ∷ codes "\n" ∷ [])
 
 -- `hits TOTAL`
 abbrev pub total_line : ℕ → List ℕ

@@ -1,13 +1,11 @@
 //! The hits of a run that is watched.
 ghost use Rattle.std.specs.Prelude.{◌≡◌, ◌++◌, map, IfOk, string_bytes};
 ghost use Rattle.std.specs.List.{flat_map};
-ghost use Rattle.call_log.specs.Lines.{kind_text};
-ghost use Rattle.machine_world.specs.Turns.{seen_kind};
 ghost use Rattle.suite_top.specs.Watched.{span_of, hit_line, total_line, found_text};
 
+use call_log::kind_text;
 use file_commands::texts::address_words;
 use manifest_text::WatchLine;
-use rv32im_step::AccessKind;
 use std::alloc::{AllocError, Global};
 use watch_points::{Hit, Hits, Span};
 
@@ -57,18 +55,6 @@ fn hit_line(alloc: Global, hit: Hit) -> Result<String, AllocError>
     let len = hit.access.len;
     let kind = kind_text(hit.access.kind);
     format!(in alloc; "hit {pid} pc {pc} addr {addr} len {len} {kind}\n")
-}
-
-/// What an access is for: a hit is a load or a store.
-fn kind_text(kind: AccessKind) -> &'static str
-    ensures { result.now ≡ kind_text (seen_kind kind) }
-{
-    match kind {
-        AccessKind::Fetch => "fetch",
-        AccessKind::Load => "load",
-        AccessKind::Store => "store",
-        AccessKind::Call => "call",
-    }
 }
 
 /// `hits TOTAL`

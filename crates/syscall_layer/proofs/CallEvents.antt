@@ -1,7 +1,7 @@
 -- The call of a run that goes on is an event of it.
 use Rattle.std.proofs.Common.{◌≡◌, ℕ, Bool, true, false, Option, Some, None, refl, sym, ap, ◌∙◌}
 use Rattle.std.specs.Prelude.{if◌then◌else◌}
-use Rattle.rv32im_step.specs.declared.access.Access.{Access}
+use Rattle.byte_words.specs.declared.access.Access.{Access}
 use Rattle.rv32im_step.specs.declared.stop.Stop.TheVariants.{Call}
 use Rattle.machine_world.specs.Event.{stray_in, event, called, stray}
 use Rattle.machine_world.specs.Courses.{StandsAt}

@@ -5,7 +5,7 @@ use Rattle.std.specs.declared.alloc.AllocError.{AllocError}
 use Rattle.bflt_format.specs.Values.{Values}
 use Rattle.region_watch.specs.declared.mode.Mode.{Mode}
 use Rattle.syscall_layer.specs.Parts.{RunParts}
-use Rattle.rv32im_step.specs.declared.access.Access.{Access}
+use Rattle.byte_words.specs.declared.access.Access.{Access}
 use Rattle.rv32im_step.specs.Meaning.{call, trap}
 use Rattle.mmap_rules.specs.Space.{Space}
 use Rattle.vfork_exec.specs.Keyed.{find}

@@ -2,7 +2,7 @@
 use Rattle.std.proofs.Common.{◌≡◌, ◌≢◌, ℕ, Bool, true, false, List, Option, Some, None, Ok, refl, sym, ap, subst, ◌∙◌}
 use Rattle.std.specs.Prelude.{if◌then◌else◌, Result, Err, IfOk, OnErr}
 use Rattle.std.specs.declared.alloc.AllocError.{AllocError}
-use Rattle.rv32im_step.specs.declared.access.Access.{Access}
+use Rattle.byte_words.specs.declared.access.Access.{Access}
 use Rattle.machine_world.specs.Event.{Outcome, went, strays, full, idle, called, stray_in}
 use Rattle.memory_world.specs.Physical.{Physical, After, after, no_room, nobody, has_stray, with_stray, called_in}
 use Rattle.kept_parts.specs.declared.served.Served.{Served}

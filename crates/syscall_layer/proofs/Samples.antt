@@ -8,13 +8,13 @@ use Rattle.byte_words.specs.Pieces.{pieces}
 use Rattle.rv32im_table.specs.Field.{opcode, funct3, funct7, rd, rs1, rs2}
 use Rattle.rv32im_table.specs.Immediate.{imm_i, imm_s, imm_b, imm_u, imm_j}
 use Rattle.rv32im_table.specs.Table.{decoded}
-use Rattle.rv32im_step.specs.declared.access.Access.{Access}
+use Rattle.byte_words.specs.declared.access.Access.{Access}
 use Rattle.rv32im_step.specs.Memory.{loaded, stored}
 use Rattle.rv32im_step.specs.Meaning.{effect, meaning}
 use Rattle.rv32im_step.specs.Registers.{register, with_register}
 use Rattle.page_runs.specs.Free.{free_runs}
 use Rattle.page_runs.specs.Place.{place}
-use Rattle.call_log.specs.declared.how.SeenKind.TheVariants as seen
+use Rattle.byte_words.specs.declared.access.AccessKind.TheVariants as access
 use Rattle.call_log.specs.Errno.{refusal}
 use Rattle.call_log.specs.Notes.{Note, call_note, stray_note, has_room}
 use Rattle.call_log.specs.Sent.{sent, read_span}
@@ -74,7 +74,7 @@ seen_behind n =
     (behind_events n (boot (rest_of 4 (caller ∷ still ∷ [])) (start 3 (codes "/st") ∷ start 4 (codes "/a") ∷ [])))
 
 abbrev stray_range : Note
-stray_range = stray_note 1 (record { pc = 0x8000_008c; addr = 0x8000_2040; len = 8; kind = seen.Call })
+stray_range = stray_note 1 (record { pc = 0x8000_008c; addr = 0x8000_2040; len = 8; kind = access.Call })
 
 abbrev makes_pipe : Note
 makes_pipe = call_note (record { pid = 1; call = 59; args = 0x8000_2040 ∷ 0 ∷ 0 ∷ 0 ∷ 0 ∷ 0 ∷ []; sent = []; reply = 0; got = record { addr = 0x8000_2040; bytes = 3 ∷ 0 ∷ 0 ∷ 0 ∷ 4 ∷ 0 ∷ 0 ∷ 0 ∷ [] } ∷ [] })

@@ -2,7 +2,7 @@
 use Rattle.std.specs.Prelude.{◌≡◌, ℕ, true, false, Ok, Result}
 use Rattle.std.specs.declared.alloc.AllocError.{AllocError}
 use Rattle.page_runs.specs.declared.place.Kind.{Kind}
-use Rattle.rv32im_step.specs.declared.access.Access.{Access}
+use Rattle.byte_words.specs.declared.access.Access.{Access}
 use Rattle.machine_world.specs.Event.{Outcome, strays, called}
 use Rattle.memory_world.specs.Physical.{called_in, has_stray}
 use Rattle.kept_parts.specs.declared.reach.Reach.TheVariants.{Own}

@@ -1,8 +1,7 @@
 -- The parts of a run.
 use Rattle.std.specs.Prelude.{◌≡◌, ℕ, Bool, true, List, [], reverse, Option, Some, None}
 use Rattle.bflt_format.specs.Values.{Values}
-use Rattle.rv32im_step.specs.declared.access.Access.{Access}
-use Rattle.call_log.specs.declared.how.Seen.{Seen}
+use Rattle.byte_words.specs.declared.access.Access.{Access}
 use Rattle.call_log.specs.Notes.{Note}
 use Rattle.memory_world.specs.Physical.{has_stray}
 use Rattle.region_watch.specs.declared.mode.Mode.{Mode}
@@ -29,6 +28,6 @@ pub record AreTied (marked : Bool) (k : Kept) : Type 0 where
   pub unmarked : k.files.changed ≡ []
 
 -- where a run has ended that ends at its first stray access, by its notes, which stand newest first
-abbrev pub halted_at : Mode → List Note → Option Seen
+abbrev pub halted_at : Mode → List Note → Option Access
 halted_at Halt notes = first_noted (reverse notes)
 halted_at GoOn notes = None

@@ -1,7 +1,7 @@
 //! A system call.
 
 ghost use Rattle.std.specs.Prelude.{◌≡◌, ◌==◌, ◌≢◌, ℕ, ◌<◌, ◌^◌, All, IfOk, false, true, List, [], length, slice_index, map, is_some, option_map, Some, Ok, OnErr};
-ghost use Rattle.rv32im_step.specs.declared.access.Access.{Access};
+ghost use Rattle.byte_words.specs.declared.access.Access.{Access};
 ghost use Rattle.call_log.specs.Numbers as numbers;
 ghost use Rattle.call_log.specs.Notes.{weight_of};
 ghost use Rattle.call_log.specs.Values.{got_value};

@@ -1,9 +1,8 @@
 //! The parts of a run.
 
-ghost use Rattle.std.specs.Prelude.{◌≡◌, ℕ, List, IfOk, OnErr, option_map};
+ghost use Rattle.std.specs.Prelude.{◌≡◌, ℕ, List, IfOk, OnErr};
 ghost use Rattle.vfork_exec.specs.Procs.{CanRun};
 ghost use Rattle.machine_world.specs.Event.{died};
-ghost use Rattle.machine_world.specs.Turns.{seen_of};
 ghost use Rattle.memory_world.specs.Physical.{has_stray, died_in};
 ghost use Rattle.kept_parts.specs.Awake.{awake_in};
 ghost use Rattle.kept_parts.specs.InMemory.{DiesIn, physical_of, without_newest};
@@ -72,7 +71,7 @@ impl Parts {
 
     /// Where a run has ended that ends at its first stray access.
     pub fn halted_at(&self) -> Option<Access>
-        ensures { option_map seen_of result ≡ halted_at self.now.mode self.now.kept.notes }
+        ensures { result ≡ halted_at self.now.mode self.now.kept.notes }
     {
         match self.mode {
             Mode::GoOn => None,

@@ -10,7 +10,7 @@ use Rattle.vfork_exec.proofs.Keyed.{find_key}
 use Rattle.machine_world.specs.World.{Process, World, pid_of}
 use Rattle.machine_world.specs.Families.{MayRun, ready_pids}
 use Rattle.machine_world.specs.Event.{Outcome, went, strays, full, idle, noted, event}
-use Rattle.machine_world.specs.Turns.{Walk, End, seen_of, remains_at, traced, turned, turn, going_on, quantum_turn, turns}
+use Rattle.machine_world.specs.Turns.{Walk, End, remains_at, traced, turned, turn, going_on, quantum_turn, turns}
 use Rattle.machine_world.proofs.Runnable.{ready_found, may_run_still}
 use Rattle.alone_laws.proofs.SoundRuns.{events_keep_sound}
 use Rattle.waits_laws.specs.Waits.{WaitsAgain, IfWaits, WaitsWell}
@@ -69,7 +69,7 @@ turned_waits more w pid (went now t) is order well may on = over t.over refl
     over : (b : Bool) → t.over ≡ b → WaitsWell (traced t (if b then remains_at now None else more now)).world
     over true ends = events_keep_waits w pid now t order well may is
     over false ends = on now (events_keep_ordered w pid now t order may is) (events_keep_waits w pid now t order well may is) (may_run_still w pid now t may is ends)
-turned_waits more w pid (strays access) is order well may on = noted_well (stray_note pid (seen_of access)) w well
+turned_waits more w pid (strays access) is order well may on = noted_well (stray_note pid access) w well
 turned_waits more w pid full is order well may on = well
 turned_waits more w pid idle is order well may on = well
 

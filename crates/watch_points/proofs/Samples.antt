@@ -1,6 +1,6 @@
 -- The definitions at worked examples, which compute.
 use Rattle.std.proofs.Common.{◌≡◌, ℕ, Bool, true, false, List, [], ◌∷◌, refl}
-use Rattle.rv32im_step.specs.declared.access.Access.{Access}
+use Rattle.byte_words.specs.declared.access.Access.{Access}
 use Rattle.rv32im_step.specs.Asked.{Asked}
 use Rattle.rv32im_step.specs.Memory.{fetch_of, load_of, store_of}
 use Rattle.watch_points.specs.declared.hits.Hit.{Hit}

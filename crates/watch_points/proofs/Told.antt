@@ -4,7 +4,7 @@ use Rattle.std.specs.Prelude.{filter, cond, if◌then◌else◌, is_some, Option
 use Rattle.std.specs.List.{AllByRecursion as Each}
 use Rattle.std.proofs.lemmas.List.{map-append}
 use Rattle.std.proofs.lemmas.List.Elements.{filter-append}
-use Rattle.rv32im_step.specs.declared.access.Access.{Access}
+use Rattle.byte_words.specs.declared.access.Access.{Access}
 use Rattle.rv32im_step.specs.declared.regs.Regs.{Regs}
 use Rattle.rv32im_step.specs.Asked.{Asked, fetched_asked, asked}
 use Rattle.rv32im_step.specs.Memory.{fetch_of, loaded}

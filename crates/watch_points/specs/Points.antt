@@ -3,8 +3,8 @@
 use Rattle.std.specs.Prelude.{ℕ, zero, suc, ◌+◌, ◌-◌, ◌^◌, ◌≡◌, ◌<◌, ◌≤◌, Bool, true, false, ◌&&◌, ◌||◌, nat_le, nat_lt, min, List, [], ◌++◌, map, filter, take, length}
 use Rattle.std.specs.Borrow.{Bor}
 use Rattle.std.specs.List.{All, list_any}
-use Rattle.rv32im_step.specs.declared.access.AccessKind.{AccessKind}
-use Rattle.rv32im_step.specs.declared.access.AccessKind.TheVariants.{Load, Store}
+use Rattle.byte_words.specs.declared.access.AccessKind.{AccessKind}
+use Rattle.byte_words.specs.declared.access.AccessKind.TheVariants.{Load, Store}
 use Rattle.rv32im_step.specs.Asked.{Asked}
 use Rattle.mmap_rules.specs.Space.{all_pass}
 use Rattle.watch_points.specs.declared.span.Span.{Span}

@@ -1,7 +1,7 @@
 -- By the law that a run which goes on is that of private spaces up to its first stray access.
 use Rattle.std.proofs.Common.{◌≡◌, ◌≢◌, ℕ, Bool, false, List, ◌++◌, map, Option, Some, None, refl, sym, ap, subst, ◌∙◌}
 use Rattle.page_runs.specs.declared.place.Kind.{Kind}
-use Rattle.rv32im_step.specs.declared.access.Access.{Access}
+use Rattle.byte_words.specs.declared.access.Access.{Access}
 use Rattle.machine_world.specs.Turns.{stray_at}
 use Rattle.memory_world.specs.Physical.{Physical, has_stray, opening_in}
 use Rattle.memory_world.proofs.Growth.{runs_leave_programs}

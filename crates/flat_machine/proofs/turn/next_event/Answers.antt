@@ -2,7 +2,7 @@
 use Rattle.std.proofs.Common.{◌≡◌, false, Some, Ok, refl, sym, ap, subst, ◌∙◌}
 use Rattle.std.specs.Prelude.{OnErr}
 use Rattle.page_runs.specs.Choosers.{kind_of}
-use Rattle.rv32im_step.specs.declared.access.Access.{Access}
+use Rattle.byte_words.specs.declared.access.Access.{Access}
 use Rattle.rv32im_step.specs.declared.stop.Stop.TheVariants.{Refused}
 use Rattle.vfork_exec.specs.Procs.{CanRun}
 use Rattle.machine_world.specs.Event.{Outcome, strays, event}

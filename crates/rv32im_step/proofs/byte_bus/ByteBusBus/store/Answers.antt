@@ -1,6 +1,6 @@
 -- The bytes written are those of the map, one by one.
 use Rattle.std.proofs.Common.{sym}
-use Rattle.rv32im_step.specs.declared.access.AccessKind.TheVariants.{Store}
+use Rattle.byte_words.specs.declared.access.AccessKind.TheVariants.{Store}
 use Rattle.rv32im_step.proofs.ByteBusLaws.{stored_placed}
 use Rattle.rv32im_step.proofs.byte_bus.ByteBusBus.store.Goals as goal
 

@@ -1,4 +1,4 @@
-//! Accesses to memory.
+//! Accesses to bytes by address.
 
 /// An access to `len` bytes from `addr` on, by the instruction at `pc`.
 #[derive(Clone, Copy, PartialEq, Eq)]
@@ -9,11 +9,15 @@ pub struct Access {
     pub kind: AccessKind,
 }
 
-/// What an access is for. `Call` is one of a system call, which no step makes.
+/// What an access is for.
 #[derive(Clone, Copy, PartialEq, Eq)]
 pub enum AccessKind {
+    /// An instruction.
     Fetch,
+    /// A load instruction.
     Load,
+    /// A store instruction.
     Store,
+    /// The input or output of a system call.
     Call,
 }
