@@ -448,7 +448,7 @@ sound_within e numbers = each_entry e (λ x. Each (λ p. p + 4 ≤ stored_len e)
     at i j kept None none = entry_within e i j numbers kept none
     at i j kept (Some f) some = tt
 
-outside_within : (e : List ℕ) → has_numbers e ≡ true → Each (λ w. w.place < stored_len e) (outside_words e)
+pub outside_within : (e : List ℕ) → has_numbers e ≡ true → Each (λ w. w.place < stored_len e) (outside_words e)
 unfolding outside_words outside_of
 outside_within e numbers =
     each-flat_map (λ w. w.place < stored_len e) (outside_of e) (entries e)

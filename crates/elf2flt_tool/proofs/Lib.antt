@@ -5,6 +5,7 @@
 -- Shapes, Walked, Entries: what the walk over the relocations finds.
 -- Painted, Numbered, Assembled: the parts of the flat file.
 -- FaultOrder: when each fault comes.
+-- Sorting, NotedSteps: what the walks for all faults find.
 -- EntryWords, AllFaults: the words of entries by number, and that the first of all faults is that one.
 pub mod Members
 pub mod Laid
@@ -40,3 +41,5 @@ pub mod Assembled
 pub mod FaultOrder
 pub mod EntryWords
 pub mod AllFaults
+pub mod Sorting
+pub mod NotedSteps
