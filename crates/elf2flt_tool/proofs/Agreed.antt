@@ -19,6 +19,7 @@ use Rattle.psabi_relocs.specs.Row.{is_got_hi20, is_high, is_low}
 use Rattle.psabi_relocs.specs.Reloc.{reloc}
 use Rattle.psabi_relocs.specs.Slot.{slot_of}
 use Rattle.psabi_relocs.specs.Effect.{is_pointer, own_span, slot_spans, spans}
+use Rattle.flat_layout.proofs.Facts.{clear_numbers}
 use Rattle.elf2flt_tool.specs.Relocs.{spans_in, spans_of}
 use Rattle.elf2flt_tool.specs.Image.{bare}
 use Rattle.elf2flt_tool.specs.Word.{words, begins_at}
@@ -163,7 +164,7 @@ begins_slot e i j n is =
 -- ---- two files
 
 is_target : (e : List ℕ) (i : ℕ) → IsBytes e → IsClear e → is_kept e i ≡ true → IsTarget e i
-is_target e i bytes clear kept = record { clear = clear.elf; laid = is_laid e clear.laid; bytes = bytes; kept = kept }
+is_target e i bytes clear kept = record { clear = clear.elf; laid = is_laid e (clear_numbers e clear.laid); bytes = bytes; kept = kept }
 
 sound_of : (e : List ℕ) (i : ℕ) → IsClear e → is_kept e i ≡ true → AllSound e i
 sound_of e i clear kept = all_sound e i clear.relocs (is_kept_below e i kept) kept

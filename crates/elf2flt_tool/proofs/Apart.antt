@@ -33,7 +33,7 @@ use Rattle.elf2flt_tool.proofs.Stills.{filter_keep, filter_drop}
 abbrev pub pointer_places : Layout → List Field → List ℕ
 pointer_places l fs = map (λ f. off l f.place) (pointers fs)
 
-abbrev fields_by : Row → Reloc → Option Ends → List Field
+abbrev pub fields_by : Row → Reloc → Option Ends → List Field
 fields_by row r None = []
 fields_by row r (Some o) = own_fields row 0 r o ++ slot_fields row 0 r o
 
@@ -46,8 +46,8 @@ one_place l p v n s true = refl
 one_place l p v n s false = refl
 
 -- what an entry's spans are
-record IsEntry (l : Layout) (fs : List Field) (ss : List Span) : Type 0 where
-  places : pointer_places l fs ≡ recorded_places l ss
+pub record IsEntry (l : Layout) (fs : List Field) (ss : List Span) : Type 0 where
+  pub places : pointer_places l fs ≡ recorded_places l ss
   few : length (recorded_places l ss) ≤ 1
   lens : Each (λ s. s.recorded ≡ true → s.len ≡ 4) ss
 
@@ -91,11 +91,11 @@ pub got_ends : (e : List ℕ) (i : ℕ) (r : Reloc) → is_got_hi20 r.row ≡ tr
 unfolding ends_of high_ends
 got_ends e i r is = rw (got_low r.row is, is) refl
 
-fields_are_by : (r : Reloc) (o : Option Ends) → fields_from 0 r o ≡ fields_by r.row r o
+pub fields_are_by : (r : Reloc) (o : Option Ends) → fields_from 0 r o ≡ fields_by r.row r o
 fields_are_by r None = refl
 fields_are_by r (Some o) = refl
 
-is_entry : (e : List ℕ) (l : Layout) (i j : ℕ) → IsEntry l (fields e 0 i j) (spans e i j)
+pub is_entry : (e : List ℕ) (l : Layout) (i j : ℕ) → IsEntry l (fields e 0 i j) (spans e i j)
 unfolding fields spans
 is_entry e l i j =
     let r = reloc e i j in

@@ -13,6 +13,7 @@ use Rattle.bflt_format.proofs.Links as links
 use Rattle.flat_layout.specs.declared.layout.Layout.{Layout}
 use Rattle.flat_layout.specs.Layout.{layout, off, size_of}
 use Rattle.psabi_relocs.specs.declared.spans.Span.{Span}
+use Rattle.flat_layout.proofs.Facts.{clear_numbers}
 use Rattle.elf2flt_tool.specs.declared.word.Word.{Word}
 use Rattle.elf2flt_tool.specs.declared.cover.Cover.{Cover}
 use Rattle.elf2flt_tool.specs.Relocs.{spans_of}
@@ -43,7 +44,7 @@ begins_has e q = sym (has-map (λ w. w.place) (words e) q) ∙ ap (λ ps. has ps
 
 -- a place of a word is below the end of text and data
 place_below : (e : List ℕ) → IsBytes e → IsLinked e → (p : ℕ) → has (places_of e) p ≡ true → p + 4 ≤ (layout e).text + (layout e).data_len
-place_below e bytes linked p there = omega (arith, place_inside e bytes linked p there, (is_laid e linked.laid).stored)
+place_below e bytes linked p there = omega (arith, place_inside e bytes linked p there, (is_laid e (clear_numbers e linked.laid)).stored)
 
 pub records_rise : (e : List ℕ) → Rises (records e)
 unfolding records
@@ -188,7 +189,7 @@ unfolding body_of number_patch
 body-painted e l ws image bytes clear laid linked is =
     let n = (layout e).text + (layout e).data_len in
     let read = is_linked e clear in
-    let stored = (is_laid e clear.laid).stored in
+    let stored = (is_laid e (clear_numbers e clear.laid)).stored in
     let by_place : map number_patch ws ≡ map (links.numbered (target_at e)) (records e) =
     ap (map number_patch) (is ∙ words_linked e l image bytes read laid linked) ∙ map_map number_patch (pointed (target_at e)) (records e) in
     ap (λ ps. bytes_below (l.text + l.data_len) (painted ps (slice_index image))) by_place

@@ -1,12 +1,12 @@
 -- The parts that the conversion makes are those of the definition.
-use Rattle.std.proofs.Common.{◌≡◌, ℕ, ◌+◌, ◌*◌, ◌/◌, List, length, map, flat_map, slice_index, None, refl, sym, ap, ◌∙◌}
+use Rattle.std.proofs.Common.{◌≡◌, ℕ, ◌+◌, ◌*◌, ◌/◌, List, length, map, flat_map, slice_index, true, None, refl, sym, ap, ◌∙◌}
 use Rattle.byte_words.specs.Numbers.{IsBytes}
 use Rattle.byte_words.specs.Patches.{painted, bytes_below}
 use Rattle.byte_words.proofs.Painting.{length-bytes_below}
 use Rattle.bflt_format.specs.Values.{ram_values}
 use Rattle.flat_layout.specs.declared.layout.Layout.{Layout}
 use Rattle.flat_layout.specs.Layout.{layout}
-use Rattle.flat_layout.specs.Fault.{layout_fault}
+use Rattle.flat_layout.specs.Rows.{has_numbers}
 use Rattle.elf2flt_tool.specs.declared.cover.Cover.{Cover}
 use Rattle.elf2flt_tool.specs.declared.word.Word.{Word}
 use Rattle.elf2flt_tool.specs.Relocs.{spans_of}
@@ -23,7 +23,7 @@ use Rattle.elf2flt_tool.proofs.Meeting.{met_words_covered}
 use Rattle.elf2flt_tool.proofs.Shapes.{all_plain, all_entries}
 
 -- the test of the recorded words by what is covered
-pub overlap-tested : (e : List ℕ) (c : Cover) → layout_fault e ≡ None → relocs_fault e ≡ None → IsFoundIn e (spans_of e) c
+pub overlap-tested : (e : List ℕ) (c : Cover) → has_numbers e ≡ true → relocs_fault e ≡ None → IsFoundIn e (spans_of e) c
     → lowest_met c (flat_map (recorded_of (layout e)) (spans_of e)) ≡ word_overlap e
 unfolding word_overlap
 overlap-tested e c laid none is =

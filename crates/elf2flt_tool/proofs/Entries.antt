@@ -5,7 +5,7 @@ use Rattle.elf32_reader.specs.Header.{count_of}
 use Rattle.elf32_reader.specs.Relas.{is_kept, rela_count}
 use Rattle.flat_layout.specs.declared.layout.Layout.{Layout}
 use Rattle.flat_layout.specs.Layout.{layout}
-use Rattle.flat_layout.specs.Fault.{layout_fault}
+use Rattle.flat_layout.specs.Rows.{has_numbers}
 use Rattle.psabi_relocs.specs.declared.fault.RelocFault.{RelocFault}
 use Rattle.psabi_relocs.specs.declared.spans.Span.{Span}
 use Rattle.psabi_relocs.specs.Effect.{spans}
@@ -44,7 +44,7 @@ relocs_fault-is e = refl
 -- ---- an entry without a fault
 
 pub entry_inside : (e : List ℕ) (i j : ℕ) (l : Layout) (n : ℕ) (ss : List Span) → l ≡ layout e → n ≡ (layout e).text + (layout e).data_len → spans e i j ≡ ss
-    → layout_fault e ≡ None → is_kept e i ≡ true → reloc_fault e i j ≡ None → Each (IsInside l n) ss
+    → has_numbers e ≡ true → is_kept e i ≡ true → reloc_fault e i j ≡ None → Each (IsInside l n) ss
 entry_inside e i j l n ss laid size are none kept accepted =
     let is = is_laid e none in
     rw (laid, size, is.stored, ← are) (spans_inside e i j is kept accepted)

@@ -7,6 +7,7 @@ use Rattle.bflt_format.specs.Image.{flat_image}
 use Rattle.bflt_format.proofs.Spelled.{values_back, no_fault}
 use Rattle.bflt_format.proofs.Links as links
 use Rattle.flat_layout.specs.Layout.{layout, off, size_of}
+use Rattle.flat_layout.proofs.Facts.{clear_numbers}
 use Rattle.elf2flt_tool.specs.Relocs.{fields_of}
 use Rattle.elf2flt_tool.specs.Image.{bare, word_patch, overwritten, pointers, relocated, image}
 use Rattle.elf2flt_tool.specs.Fault.{fault}
@@ -50,7 +51,7 @@ same_image : (e : List ℕ) (stack b : ℕ) → IsBytes e → IsClear e → flat
 same_image e stack b bytes clear =
     links.same_image (target_at e) (places_of e) (bare e) b (converted e stack) (words_of_flat e stack bytes clear)
     (records_of_are e stack bytes clear)
-    (rw (stored_is e stack bytes clear) (bare_zero e (is_laid e clear.laid))) (body_is e stack bytes clear)
+    (rw (stored_is e stack bytes clear) (bare_zero e (is_laid e (clear_numbers e clear.laid)))) (body_is e stack bytes clear)
     ∙ ap (λ n. from_base b n (painted (map (links.addressed (target_at e) b) (places_of e)) (bare e))) (size_is e stack)
     ∙ sym (image_by_words e b bytes clear)
 

@@ -1,13 +1,13 @@
--- What is known of the layout of a file without a layout fault, in one record over numbers.
-use Rattle.std.proofs.Common.{◌≡◌, ℕ, ◌+◌, ◌%◌, ◌^◌, ◌<◌, ◌≤◌, ◌⊎◌, inl, inr, true, List, None, arith}
+-- What is known of the layout of a file whose bytes have numbers, in one record over numbers.
+use Rattle.std.proofs.Common.{◌≡◌, ℕ, ◌+◌, ◌%◌, ◌^◌, ◌<◌, ◌≤◌, ◌⊎◌, inl, inr, true, List, arith}
 use Rattle.std.proofs.lemmas.Bool.{cases_eq}
 use Rattle.elf32_reader.specs.Header.{count_of}
 use Rattle.elf32_reader.specs.Sections.{section}
 use Rattle.flat_layout.specs.Numbering.{has_bytes, distance}
 use Rattle.flat_layout.specs.Layout.{layout, off, size_of, stored_end}
-use Rattle.flat_layout.specs.Fault.{layout_fault}
+use Rattle.flat_layout.specs.Rows.{has_numbers}
 use Rattle.flat_layout.proofs.Facts.{has_sizes, laid_out, text-multiple, text-data, size_of-layout, size_le, start_fits}
-use Rattle.flat_layout.proofs.Numbers.{is_numbered, stored_inside, off-inside, numbers_apart, has_entry}
+use Rattle.flat_layout.proofs.Numbers.{is_numbered, stored_inside, off-inside, numbers_apart}
 
 -- the numbers of two sections: one ends before the other begins
 abbrev pub AreApart : List ℕ → ℕ → ℕ → Type 0
@@ -24,27 +24,25 @@ pub record IsLaid (e : List ℕ) : Type 0 where
       → off (layout e) ((section e i).addr + k) ≡ off (layout e) (section e i).addr + k
   pub inside : (i : ℕ) → i < count_of e → has_bytes (section e i) ≡ true → off (layout e) (section e i).addr + (section e i).size ≤ stored_end e
   pub apart : (i j : ℕ) → i < count_of e → j < count_of e → has_bytes (section e i) ≡ true → has_bytes (section e j) ≡ true → (i ≡ j) ⊎ AreApart e i j
-  pub entry_aligned : (layout e).entry % 4 ≡ 0
-  pub entry_inside : (layout e).entry + 4 ≤ stored_end e
   pub start : (layout e).v0 < 2 ^ 32
 
-number : (e : List ℕ) (i : ℕ) → layout_fault e ≡ None → i < count_of e → has_bytes (section e i) ≡ true → off (layout e) (section e i).addr ≡ distance e (section e i).addr
+number : (e : List ℕ) (i : ℕ) → has_numbers e ≡ true → i < count_of e → has_bytes (section e i) ≡ true → off (layout e) (section e i).addr ≡ distance e (section e i).addr
 number e i none below bytes = (is_numbered e i none below (laid_out e i bytes)).number
 
-number_along : (e : List ℕ) (i k : ℕ) → layout_fault e ≡ None → i < count_of e → has_bytes (section e i) ≡ true → k < (section e i).size
+number_along : (e : List ℕ) (i k : ℕ) → has_numbers e ≡ true → i < count_of e → has_bytes (section e i) ≡ true → k < (section e i).size
     → off (layout e) ((section e i).addr + k) ≡ off (layout e) (section e i).addr + k
 number_along e i k none below bytes small =
     let here = number e i none below bytes in
     let there = off-inside e i ((section e i).addr + k) none below (laid_out e i bytes) (omega arith) (omega arith) in
     omega arith
 
-number_inside : (e : List ℕ) (i : ℕ) → layout_fault e ≡ None → i < count_of e → has_bytes (section e i) ≡ true → off (layout e) (section e i).addr + (section e i).size ≤ stored_end e
+number_inside : (e : List ℕ) (i : ℕ) → has_numbers e ≡ true → i < count_of e → has_bytes (section e i) ≡ true → off (layout e) (section e i).addr + (section e i).size ≤ stored_end e
 number_inside e i none below bytes =
     let here = number e i none below bytes in
     let inside = stored_inside e i none below bytes in
     omega arith
 
-sections_by_number : (e : List ℕ) (i j : ℕ) → layout_fault e ≡ None → i < count_of e → j < count_of e → has_bytes (section e i) ≡ true → has_bytes (section e j) ≡ true → (i ≡ j) ⊎ AreApart e i j
+sections_by_number : (e : List ℕ) (i j : ℕ) → has_numbers e ≡ true → i < count_of e → j < count_of e → has_bytes (section e i) ≡ true → has_bytes (section e j) ≡ true → (i ≡ j) ⊎ AreApart e i j
 sections_by_number e i j none i_below j_below i_bytes j_bytes =
     let here = number e i none i_below i_bytes in
     let there = number e j none j_below j_bytes in
@@ -56,10 +54,9 @@ sections_by_number e i j none i_below j_below i_bytes j_bytes =
       ])
     ]
 
-pub is_laid : (e : List ℕ) → layout_fault e ≡ None → IsLaid e
+pub is_laid : (e : List ℕ) → has_numbers e ≡ true → IsLaid e
 is_laid e none =
     let sizes = has_sizes e none in
-    let entry = has_entry e none in
     let size = size_of-layout e in
     let stored = text-data e in
     record {
@@ -70,7 +67,5 @@ is_laid e none =
       along = λ i k below bytes small. number_along e i k none below bytes small;
       inside = λ i below bytes. number_inside e i none below bytes;
       apart = λ i j i_below j_below i_bytes j_bytes. sections_by_number e i j none i_below j_below i_bytes j_bytes;
-      entry_aligned = entry.aligned;
-      entry_inside = let inside = entry.inside in omega arith;
       start = start_fits e;
     }

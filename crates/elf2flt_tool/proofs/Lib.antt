@@ -1,10 +1,12 @@
 -- Members, Laid, Bare, Putting, Raised, Sound, Held, Stills, Recorded, Apart, Listed, Ascending, Spelled, ImageLaw, Loads: the laws over definitions.
 -- Twins, Slots, Agreed: two files that say the same, or agree on their relocations. Exchanged: two that agree and differ.
--- Samples: the worked examples, computed.
+-- Samples, FaultSamples: the worked examples, computed; of all faults.
 -- Lowest, Meeting, Unmet: the least word that meets another relocation, by what the test for overlaps keeps.
 -- Shapes, Walked, Entries: what the walk over the relocations finds.
 -- Painted, Numbered, Assembled: the parts of the flat file.
--- Faults: when each fault comes.
+-- FaultOrder: when each fault comes.
+-- Sorting, NotedSteps: what the walks for all faults find.
+-- EntryWords, AllFaults: the words of entries by number, and that the first of all faults is that one.
 pub mod Members
 pub mod Laid
 pub mod Bare
@@ -24,6 +26,7 @@ pub mod Twins
 pub mod Slots
 pub mod Agreed
 pub mod Samples
+pub mod FaultSamples
 pub mod Exchanged
 pub mod Lowest
 pub mod Meeting
@@ -35,4 +38,8 @@ pub mod Painted
 pub mod Slid
 pub mod Numbered
 pub mod Assembled
-pub mod Faults
+pub mod FaultOrder
+pub mod EntryWords
+pub mod AllFaults
+pub mod Sorting
+pub mod NotedSteps

@@ -11,6 +11,7 @@ use Rattle.flat_layout.specs.Layout.{layout, off, size_of, stored_end}
 use Rattle.flat_layout.proofs.Numbers.{off_fits, off-shift}
 use Rattle.psabi_relocs.specs.Shape.{has_value}
 use Rattle.psabi_relocs.specs.Field.{Field}
+use Rattle.flat_layout.proofs.Facts.{clear_numbers}
 use Rattle.elf2flt_tool.specs.declared.word.Word.{Word}
 use Rattle.elf2flt_tool.specs.Relocs.{fields_of}
 use Rattle.elf2flt_tool.specs.Image.{bare, word_of, word_patch, pointers}
@@ -84,7 +85,7 @@ addressed_are e b bytes clear =
     map_map (word_patch l) (raised (off l b)) (pointers (fields_of e 0))
     ∙ map_same (λ f. word_patch l (raised (off l b) f)) (λ f. addressed (target_at e) b (off l f.place)) (pointers (fields_of e 0))
     (each-weaker (IsRecorded e) (λ f. word_patch l (raised (off l b) f) ≡ addressed (target_at e) b (off l f.place))
-    (λ f is. ap (little_word (off l f.place)) (raised_word l b f (is_laid e clear.laid).start is.recorded ∙ ap (λ v. (b + off l v) % 2 ^ 32) (sym is.holds)))
+    (λ f is. ap (little_word (off l f.place)) (raised_word l b f (is_laid e (clear_numbers e clear.laid)).start is.recorded ∙ ap (λ v. (b + off l v) % 2 ^ 32) (sym is.holds)))
     (pointers (fields_of e 0)) (all_recorded e bytes clear))
     ∙ sym (map_map (addressed (target_at e) b) (λ f. off l f.place) (pointers (fields_of e 0)))
 

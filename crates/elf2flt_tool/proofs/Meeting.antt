@@ -168,15 +168,15 @@ each_split P all rest own is each =
     let inner = each_parts P own is.behind outer.1 in
     subst Q (sym is.rest_is) (each-append P is.before is.behind outer.0 inner.1)
 
--- the spans of an entry: its field's, and perhaps its slot's, and only words are recorded
+-- the spans of an entry: none, or its field's, and perhaps its slot's, and only words are recorded
 abbrev pub IsEntry : List Span → Type 0
-IsEntry [] = ⊥
+IsEntry [] = Unit {0}
 IsEntry (own ∷ []) = IsWord own
 IsEntry (own ∷ slot ∷ []) = (own.recorded ≡ false) × (own.len ≡ 4) × (slot.len ≡ 4)
 IsEntry (own ∷ slot ∷ more ∷ rest) = ⊥
 
 pub entry_words : (ss : List Span) → IsEntry ss → Each IsWord ss
-entry_words [] is = absurd is
+entry_words [] is = tt
 entry_words (own ∷ []) is = (is, tt)
 entry_words (own ∷ slot ∷ []) is = ((λ recorded. is.1), ((λ recorded. is.2), tt))
 entry_words (own ∷ slot ∷ more ∷ rest) is = absurd is
@@ -268,7 +268,7 @@ slot_own l own slot still len recorded = record {
 
 entry_met : (l : Layout) (f : ℕ → Bool) (cover : Cover) (ss : List Span) → IsEntry ss → ((r : Recorded) → IsOwn l ss r → f r.place ≡ is_met cover r)
     → filter f (recorded_places l ss) ≡ map (λ w. w.place) (filter (is_met cover) (recorded_of l ss))
-entry_met l f cover [] is same = absurd is
+entry_met l f cover [] is same = refl
 entry_met l f cover (own ∷ []) is same = elim (cases_Bool own.recorded) [
   | inl recorded ↦
       rw recorded (one_kept f cover (record { place = off l own.place; instruction = None }) (same (record { place = off l own.place; instruction = None }) (word_own l own recorded)))
@@ -289,7 +289,7 @@ each_get P (x ∷ xs) (suc k) d each below = each_get P xs k d each.1 (omega ari
 
 -- all entries
 
-met_words_at : (l : Layout) (n : ℕ) (es : List (List Span)) (cover : Cover) (k : ℕ) → k < length es → Each IsEntry es → IsCover l n (all_of es) cover
+pub met_words_at : (l : Layout) (n : ℕ) (es : List (List Span)) (cover : Cover) (k : ℕ) → k < length es → Each IsEntry es → IsCover l n (all_of es) cover
     → met_words l es k ≡ map (λ w. w.place) (filter (is_met cover) (recorded_of l (entry_of es k)))
 met_words_at l n es cover k below each covered_by =
     let split = split_at es k below in
@@ -297,7 +297,7 @@ met_words_at l n es cover k below each covered_by =
     entry_met l (λ p. list_any (meets l p) (others k es)) cover (entry_of es k) (each_get IsEntry es k [] each below)
     (λ r is. met_same l n (all_of es) (others k es) (entry_of es k) cover r split covered_by is words)
 
-flat_map_indexed : {X Y : Type 0} (f : ℕ → List Y) (g : X → List Y) (xs : List X) (d : X) (a : ℕ) → ((k : ℕ) → k < length xs → f (a + k) ≡ g (get_or xs k d))
+pub flat_map_indexed : {X Y : Type 0} (f : ℕ → List Y) (g : X → List Y) (xs : List X) (d : X) (a : ℕ) → ((k : ℕ) → k < length xs → f (a + k) ≡ g (get_or xs k d))
     → flat_map f (range_with_len a (length xs)) ≡ flat_map g xs
 flat_map_indexed f g [] d a same = refl
 flat_map_indexed f g (x ∷ xs) d a same =

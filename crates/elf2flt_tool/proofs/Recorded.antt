@@ -16,6 +16,7 @@ use Rattle.flat_layout.specs.Fault.{layout_fault}
 use Rattle.byte_words.specs.Numbers.{IsBytes}
 use Rattle.psabi_relocs.specs.Field.{fields}
 use Rattle.psabi_relocs.specs.Fault.{reloc_fault}
+use Rattle.flat_layout.proofs.Facts.{clear_numbers}
 use Rattle.elf2flt_tool.specs.declared.refusal.Refusal.{Refusal}
 use Rattle.elf2flt_tool.specs.declared.refusal.Refusal.TheVariants as refusals
 use Rattle.elf2flt_tool.specs.Relocs.{fields_in, fields_of}
@@ -103,7 +104,7 @@ unfolding fields_in
 section_held e i bytes clear below = elim (cases_Bool (is_kept e i)) [
   | inl kept ↦
       let sound = all_sound e i clear.relocs below kept in
-      let target : IsTarget e i = record { clear = clear.elf; laid = is_laid e clear.laid; bytes = bytes; kept = kept } in
+      let target : IsTarget e i = record { clear = clear.elf; laid = is_laid e (clear_numbers e clear.laid); bytes = bytes; kept = kept } in
       rw kept (each-flat_map (IsHeld e) (fields e 0 i) (range_with_len 0 (rela_count e i))
       (each-range (λ j. Each (IsHeld e) (fields e 0 i j)) 0 (rela_count e i) (λ j low high. fields_held e i j target (sound j (omega arith)))))
   | inr dropped ↦ rw dropped tt

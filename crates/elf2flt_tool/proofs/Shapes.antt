@@ -143,7 +143,7 @@ all_plain e laid none =
     (each-range (λ i. Each (IsPlain (layout e) (stored_end e)) (spans_in e i)) 0 (count_of e) (λ i low high. section_plain e i laid none (omega arith)))
 
 recorded_inside : (l : Layout) (n : ℕ) (ss : List Span) → IsPlain l n ss → Each (λ r. r.place + 4 ≤ n) (recorded_of l ss)
-recorded_inside l n [] plain = absurd plain.0
+recorded_inside l n [] plain = tt
 recorded_inside l n (own ∷ []) plain = elim (cases_Bool own.recorded) [
   | inl recorded ↦
       let len = plain.0 recorded in

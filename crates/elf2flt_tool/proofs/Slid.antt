@@ -17,7 +17,7 @@ use Rattle.flat_layout.specs.declared.layout.Layout.{Layout}
 use Rattle.flat_layout.specs.Numbering.{has_bytes}
 use Rattle.flat_layout.specs.Layout.{layout, off}
 use Rattle.flat_layout.specs.Fault.{layout_fault}
-use Rattle.flat_layout.proofs.Facts.{text-data, laid_out}
+use Rattle.flat_layout.proofs.Facts.{clear_numbers, text-data, laid_out}
 use Rattle.flat_layout.proofs.Numbers.{is_numbered, stored_inside}
 use Rattle.elf2flt_tool.specs.Image.{section_patch, IsLinkedFile}
 use Rattle.elf2flt_tool.specs.Slides.{slid_patch, section_slide, IsSlid, GoDown, end_of, AreSlides}
@@ -270,8 +270,8 @@ is_inside e i read none below is =
     let stored = is_stored_of (section e i) is in
     let fits = stored_fits e i read below stored.allocated stored.stored in
     let len = length_content e (section e i) fits in
-    let inside = stored_inside e i none below is in
-    let number = (is_numbered e i none below (laid_out e i is)).number in
+    let inside = stored_inside e i (clear_numbers e none) below is in
+    let number = (is_numbered e i (clear_numbers e none) below (laid_out e i is)).number in
     let whole = text-data e in
     record {
       from = fits;

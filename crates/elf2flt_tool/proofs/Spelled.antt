@@ -9,6 +9,8 @@ use Rattle.bflt_format.proofs.Links.{AreWords, HasRecords, has_records}
 use Rattle.bflt_format.proofs.Links as links
 use Rattle.bflt_format.proofs.Rising.{has}
 use Rattle.flat_layout.specs.Layout.{layout, size_of, stored_end}
+use Rattle.flat_layout.proofs.Facts.{clear_numbers}
+use Rattle.flat_layout.proofs.Numbers.{has_entry}
 use Rattle.elf2flt_tool.specs.Image.{bare}
 use Rattle.elf2flt_tool.specs.Word.{records}
 use Rattle.elf2flt_tool.specs.Fault.{fault}
@@ -21,7 +23,7 @@ use Rattle.elf2flt_tool.proofs.Ascending.{records_rise, records_has}
 -- the sizes, the body and the records, by the places of the words
 pub stored_is : (e : List ℕ) (stack : ℕ) → IsBytes e → IsClear e → stored (converted e stack) ≡ stored_end e
 unfolding converted
-stored_is e stack bytes clear = (is_laid e clear.laid).stored
+stored_is e stack bytes clear = (is_laid e (clear_numbers e clear.laid)).stored
 
 pub size_is : (e : List ℕ) (stack : ℕ) → image_size (converted e stack) ≡ size_of (layout e)
 unfolding converted
@@ -44,7 +46,7 @@ words_of_flat e stack bytes clear = rw (stored_is e stack bytes clear) (are_word
 
 records_of_flat : (e : List ℕ) (stack : ℕ) → IsBytes e → IsClear e → HasRecords (converted e stack)
 records_of_flat e stack bytes clear =
-    let laid = is_laid e clear.laid in
+    let laid = is_laid e (clear_numbers e clear.laid) in
     let end = stored_is e stack bytes clear in
     has_records (target_at e) (places_of e) (bare e) (converted e stack) (words_of_flat e stack bytes clear)
     (rw (size_is e stack) (target_within e bytes clear)) (omega (arith, end, laid.fits, laid.small)) (body_is e stack bytes clear) (rw (records_are e stack) (records_rise e)) (records_of_are e stack bytes clear)
@@ -56,11 +58,12 @@ body_length e = length-bytes_below _ _
 pub spells_clear : (e : List ℕ) (stack : ℕ) → IsBytes e → IsClear e → stack ≤ 1048576 → Spells (converted e stack)
 unfolding converted
 spells_clear e stack bytes clear limit =
-    let laid = is_laid e clear.laid in
+    let laid = is_laid e (clear_numbers e clear.laid) in
     let records = records_of_flat e stack bytes clear in
     let end = laid.stored in
-    let aligned = laid.entry_aligned in
-    let inside = laid.entry_inside in
+    let program = has_entry e clear.laid in
+    let aligned = program.aligned in
+    let within = program.inside in
     record {
       body = body_length e;
       size = laid.small;

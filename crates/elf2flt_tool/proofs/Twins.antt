@@ -16,6 +16,7 @@ use Rattle.flat_layout.specs.Extremes.{least_below, greatest_below}
 use Rattle.flat_layout.specs.Numbering.{is_laid_out, has_bytes, is_written, end_of, lowest, highest, raised_start, distance, start_of}
 use Rattle.flat_layout.specs.Layout.{layout, off, stored_end, written_from, text_of}
 use Rattle.flat_layout.proofs.Bounds.{greatest_at, greatest_le, least_le_none, least_at}
+use Rattle.flat_layout.proofs.Facts.{clear_numbers}
 use Rattle.elf2flt_tool.specs.Image.{section_patch, bare, word_of}
 use Rattle.elf2flt_tool.specs.Word.{records}
 use Rattle.elf2flt_tool.specs.Converted.{converted, flat}
@@ -191,8 +192,8 @@ byte_of_twin e f i j n e_clear f_clear e_laid f_laid laid below twin here =
 pub bare_at : (e f : List ℕ) (n : ℕ) → IsClear e → IsClear f → HaveSameSections e f → bare e n ≡ bare f n
 bare_at e f n e_clear f_clear s =
     let laid = layout_same e f s in
-    let e_laid = is_laid e e_clear.laid in
-    let f_laid = is_laid f f_clear.laid in
+    let e_laid = is_laid e (clear_numbers e e_clear.laid) in
+    let f_laid = is_laid f (clear_numbers f f_clear.laid) in
     elim (look (λ i. spans (section_patch e i) n) (count_of e)) [
       | inl met ↦
           let here = is_of e met.index n met.passes in

@@ -7,6 +7,7 @@ use Rattle.bflt_format.specs.Image.{flat_image}
 use Rattle.flat_layout.specs.Layout.{layout}
 use Rattle.linux_loader.specs.Laws.{IsPlaced, LoadsAs}
 use Rattle.elf2flt_tool.specs.Fault.{fault}
+use Rattle.elf2flt_tool.specs.Faults.{faults, first_refusal}
 use Rattle.elf2flt_tool.specs.Image.{image}
 use Rattle.elf2flt_tool.specs.Converted.{flat}
 use Rattle.elf2flt_tool.specs.Same.{SaysSame, RecordsSame, Agrees, HasHighsApart}
@@ -25,6 +26,10 @@ abbrev pub LinuxLaw : Type 0
 LinuxLaw =
     (e : List ℕ) (stack args k : ℕ) → IsBytes e → fault e ≡ None → stack ≤ 1048576 → (layout e).entry < 2 ^ 24 - 64 → IsPlaced (flat e stack) args k →
     LoadsAs (flat e stack) args k (image e (k + 64)) (k + 64 + (layout e).entry)
+
+-- the first of all faults of a file is its first fault; it has none exactly where the list is empty
+abbrev pub FirstFaultLaw : Type 0
+FirstFaultLaw = (e : List ℕ) → first_refusal (faults e) ≡ fault e
 
 -- two accepted files that agree on the entry, the laid-out sections and the kept relocations become the same flat file, where
 -- one of them has no two sections with high parts at one place

@@ -1,10 +1,13 @@
 -- How far a walk over the kept relocations has come.
-use Rattle.std.specs.Prelude.{◌≡◌, ℕ, ◌+◌, List, ◌++◌, map, flat_map, None}
+use Rattle.std.specs.Prelude.{◌≡◌, ℕ, ◌+◌, true, List, ◌++◌, map, flat_map, None}
 use Rattle.std.specs.List.{range_with_len}
 use Rattle.elf32_reader.specs.Accepted.{IsAccepted}
 use Rattle.flat_layout.specs.declared.layout.Layout.{Layout}
 use Rattle.flat_layout.specs.Layout.{layout}
 use Rattle.flat_layout.specs.Fault.{layout_fault}
+use Rattle.flat_layout.specs.Rows.{has_numbers}
+use Rattle.psabi_relocs.specs.declared.stored.StoredSections.{StoredSections}
+use Rattle.psabi_relocs.specs.Index.{AreStored}
 use Rattle.psabi_relocs.specs.declared.spans.Span.{Span}
 use Rattle.psabi_relocs.specs.Effect.{spans}
 use Rattle.elf2flt_tool.specs.declared.cover.Cover.{Cover}
@@ -15,6 +18,12 @@ use Rattle.elf2flt_tool.specs.Cover.{recorded_of, IsCover}
 use Rattle.elf2flt_tool.specs.Word.{records, word_overlap}
 use Rattle.elf2flt_tool.specs.Fault.{relocs_fault}
 use Rattle.elf2flt_tool.specs.Image.{IsLinkedFile}
+
+-- what a walk goes by: the bytes of the file e have numbers, and the layout and the index of stored sections are its own
+pub record IsReady (e : List ℕ) (l : Layout) (s : StoredSections) : Type 0 where
+  pub numbers : has_numbers e ≡ true
+  pub layout : l ≡ layout e
+  pub stored : AreStored e s
 
 -- the bytes of the sections before section i, and of the first j entries of that, a list for each entry
 abbrev pub spans_before : List ℕ → ℕ → ℕ → List (List Span)

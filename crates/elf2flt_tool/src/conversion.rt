@@ -16,6 +16,7 @@ use crate::places::places_of;
 use crate::refusal::Refusal;
 use crate::sliding::{slid_file, slides_of};
 use crate::target::lowest_outside;
+use crate::walk::Walk;
 use bflt_format::Flat;
 use elf32_reader::Elf;
 use flat_layout::Layout;
@@ -25,7 +26,7 @@ use std::alloc::Global;
 const STACK_UNIT: u32 = 16;
 
 /// The linked address of the byte with a number.
-fn address_of(layout: &Layout, number: u32) -> u32
+pub fn address_of(layout: &Layout, number: u32) -> u32
     ensures { result ≡ address_of layout.now number }
 {
     number.wrapping_add(layout.v0)
@@ -41,9 +42,10 @@ fn find_places(alloc: Global, elf: &Elf<'_>, layout: &Layout) -> Result<Placed, 
         (λ placed. IsPlaced elf.now placed)
         (λ refusal. (refusal ≡ Refusal.Memory) ⊎ (relocs_fault elf.now ≡ Some refusal)) }
 {
-    let cover = cover_all(alloc, elf, layout)?;
+    let walk = Walk::of(alloc, elf, layout)?;
+    let cover = cover_all(alloc, &walk)?;
     let places = places_of(alloc, &cover.words)?;
-    let met = lowest_overlap(alloc, &cover, elf, layout, &places)?;
+    let met = lowest_overlap(alloc, &cover, &walk, &places)?;
     Ok(Placed { places, met })
 }
 

@@ -1,6 +1,6 @@
 //! Laws over the definitions. They hold for all files, and no code runs.
 
-ghost use Rattle.elf2flt_tool.specs.Laws.{DifferThoughAgreed, FlatLaw, ImageLaw, LinuxLaw, NothingElseLaw, SameRecordersLaw, SameWordsLaw};
+ghost use Rattle.elf2flt_tool.specs.Laws.{DifferThoughAgreed, FirstFaultLaw, FlatLaw, ImageLaw, LinuxLaw, NothingElseLaw, SameRecordersLaw, SameWordsLaw};
 
 /// The flat file of an accepted ELF file has, loaded at any base, the image of the ELF file there.
 pub fn image_law()
@@ -16,6 +16,11 @@ pub fn flat_law()
 /// leaves the image of the ELF file behind the header; the program starts at the ELF file's entry.
 pub fn linux_law()
     ensures { LinuxLaw }
+{}
+
+/// The first of all faults is the first fault: what `convert` refuses a file for is the first of what `faults` lists.
+pub fn first_fault_law()
+    ensures { FirstFaultLaw }
 {}
 
 /// The flat file goes by the entry, the laid-out sections and the kept relocations, and by nothing else: not by the order of

@@ -9,7 +9,8 @@ use crate::places::word_at;
 use crate::word::Word;
 use flat_layout::Layout;
 
-fn points_outside(size: u32, word: &Word) -> bool
+/// Whether a word points to no byte of an image of so many bytes, nor to its end.
+pub fn points_outside(size: u32, word: &Word) -> bool
     ensures { result ≡ points_outside size word.now }
 {
     word.target == 0 || size < word.target

@@ -1,14 +1,16 @@
 -- What lies in the file, by the index that names it.
 use Rattle.std.proofs.Common.{◌≡◌, ℕ, ◌+◌, ◌<◌, ◌≤◌, inl, inr, true, false, not, List, length, nat_eq, refl, sym, ap, arith, subst}
-use Rattle.std.proofs.lemmas.Bool.{and_parts, and_from, or_cases, ltb-true, eqb-true}
+use Rattle.std.proofs.lemmas.Bool.{and_parts, and_from, or_cases, ltb-true, ltb-false, eqb-true, not-true}
 use Rattle.std.proofs.lemmas.Grind.{common_steps}
 use Rattle.elf32_reader.specs.declared.section.Section.{Section}
 use Rattle.elf32_reader.specs.Header.{count_of}
 use Rattle.elf32_reader.specs.Sections.{section, is_allocated, is_stored, has_content, content, is_of_kind}
 use Rattle.elf32_reader.specs.Symbols.{is_symtab, symbol_count, symbol_offset}
 use Rattle.elf32_reader.specs.Relas.{is_static_relocation, is_kept, rela_count, entry_offset}
-use Rattle.elf32_reader.specs.Faults.{has_symbol_shape, has_rela_shape}
+use Rattle.elf32_reader.specs.Faults.{passes_end, has_symbol_shape, has_rela_shape}
+use Rattle.elf32_reader.specs.Names.{names_index, has_names}
 use Rattle.elf32_reader.specs.Tables.{HasRanges}
+use Rattle.byte_words.proofs.Searches.{and_rest}
 
 pub is_of_kind_below : (e : List ℕ) (i k : ℕ) → is_of_kind e i k ≡ true → i < count_of e
 unfolding is_of_kind
@@ -97,3 +99,21 @@ strings_fit e t ranges shape =
 pub length_content : (e : List ℕ) (s : Section) → s.offset + s.size ≤ length e → length (content e s) ≡ s.size
 unfolding content
 length_content e s fits = grind (arith, common_steps)
+
+-- the table of section names lies in the file
+
+names_parts : (e : List ℕ) → has_names e ≡ true → (is_of_kind e (names_index e) 3 ≡ true) × (passes_end e (names_index e) ≡ false)
+unfolding has_names
+names_parts e is =
+    let whole = and_parts _ _ is in
+    ((and_parts _ _ whole.0).1, not-true _ whole.1)
+
+pub names_below : (e : List ℕ) → has_names e ≡ true → names_index e < count_of e
+names_below e is = is_of_kind_below e _ 3 (names_parts e is).0
+
+pub names_fit : (e : List ℕ) → has_names e ≡ true → (section e (names_index e)).offset + (section e (names_index e)).size ≤ length e
+unfolding passes_end
+names_fit e is =
+    let parts = names_parts e is in
+    let content = has_content_of_kind (section e (names_index e)) 3 (is_of_kind_kind e _ 3 parts.0) refl refl in
+    ltb-false _ _ (and_rest _ _ parts.1 content)

@@ -5,6 +5,7 @@ ghost use Rattle.std.specs.Int.{w32, cast_unsigned};
 ghost use Rattle.elf32_reader.specs.Header.{entry_of, count_of};
 ghost use Rattle.elf32_reader.specs.Sections.{section, has_content, content};
 ghost use Rattle.elf32_reader.specs.Symbols.{is_symtab, symbol_count, symbol, name_of};
+ghost use Rattle.elf32_reader.specs.Names.{section_name};
 ghost use Rattle.elf32_reader.specs.Relas.{is_kept, rela_count, addend_word, rela};
 ghost use Rattle.elf32_reader.specs.Faults.{section_fault, elf_fault};
 ghost use Rattle.elf32_reader.specs.Accepted.{IsAccepted};
@@ -12,6 +13,7 @@ ghost use Rattle.elf32_reader.specs.Tables.{HasTable};
 
 use crate::fault::ElfFault;
 use crate::header::{entry_address, header_fault_of, section_count};
+use crate::names::{section_name_at, section_name_start_at};
 use crate::rela::{Rela, is_kept_at, rela_of, relas_in, some_rela_is_bad};
 use crate::section::{Section, content_at, section_at, some_passes};
 use crate::symbol::{Symbol, name_in, name_start_in, some_symtab_is_bad, symbol_of, symbols_in};
@@ -97,6 +99,23 @@ impl<'a> Elf<'a> {
         ensures { result ≡ section self.now index }
     {
         section_at(self.bytes, index)
+    }
+
+    /// The name of a section, without the zero that ends it; empty where the file has no names of sections. It is
+    /// searched anew at each call.
+    pub fn section_name(&self, index: u32) -> &[u8]
+        requires { index < count_of self.now }
+        ensures { result.now ≡ section_name self.now index }
+    {
+        section_name_at(self.bytes, index)
+    }
+
+    /// At most the first `limit` bytes of a section's name. However long the name is, no more are looked at.
+    pub fn section_name_start(&self, index: u32, limit: usize) -> &[u8]
+        requires { index < count_of self.now }
+        ensures { result.now ≡ take limit (section_name self.now index) }
+    {
+        section_name_start_at(self.bytes, index, limit)
     }
 
     /// The bytes of a section that is neither NULL nor NOBITS.

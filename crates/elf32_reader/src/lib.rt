@@ -9,12 +9,15 @@
 mod elf;
 mod fault;
 mod header;
+mod heads;
+mod names;
 mod rela;
 mod section;
 mod symbol;
 
 pub use elf::Elf;
 pub use fault::ElfFault;
+pub use heads::Heads;
 pub use rela::Rela;
 pub use section::Section;
 pub use symbol::Symbol;

@@ -137,8 +137,9 @@ fn names_no_section(bytes: &[u8], index: u32) -> bool
     is_for_linker(&section) && section_count(bytes) <= section.info
 }
 
+/// Whether a section has relocations that are refused: those of no section, or kept ones of another shape or without a symbol.
 #[tactic(auto, unfolding(crate::specs::Faults::is_bad_rela))]
-fn is_bad(bytes: &[u8], index: u32) -> bool
+pub fn is_bad_rela(bytes: &[u8], index: u32) -> bool
     requires ranges { HasRanges bytes.now }
     requires index { index < count_of bytes.now }
     ensures { result ≡ is_bad_rela bytes.now index }
@@ -155,7 +156,7 @@ pub fn some_rela_is_bad(bytes: &[u8]) -> bool
     ensures { result ≡ any_below (is_bad_rela bytes.now) (count_of bytes.now) }
 {
     for index in 0..section_count(bytes) {
-        if is_bad(bytes, index) {
+        if is_bad_rela(bytes, index) {
             return true;
         }
     }

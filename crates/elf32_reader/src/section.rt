@@ -102,8 +102,9 @@ pub fn has_kind(bytes: &[u8], index: u32, kind: u32) -> bool
     index < section_count(bytes) && section_at(bytes, index).kind == kind
 }
 
+/// Whether the content of a section passes the file's end.
 #[tactic(auto, unfolding(crate::specs::Faults::passes_end))]
-fn passes(bytes: &[u8], index: u32) -> bool
+pub fn passes(bytes: &[u8], index: u32) -> bool
     requires table { HasTable bytes.now }
     requires index { index < count_of bytes.now }
     ensures { result ≡ passes_end bytes.now index }

@@ -15,7 +15,7 @@ use byte_words::{byte, half, word};
 
 const SHT_SYMTAB: u32 = 2;
 
-const SHT_STRTAB: u32 = 3;
+pub const SHT_STRTAB: u32 = 3;
 /// The bytes of a symbol.
 const SYMBOL_LEN: u32 = 16;
 
@@ -129,8 +129,9 @@ fn some_lacks_name(bytes: &[u8], table: u32) -> bool
     false
 }
 
+/// Whether a section is a symbol table of another shape, or with a symbol whose name isn't in its string table.
 #[tactic(auto, unfolding(crate::specs::Faults::is_bad_symtab))]
-fn is_bad(bytes: &[u8], table: u32) -> bool
+pub fn is_bad_symtab(bytes: &[u8], table: u32) -> bool
     requires { HasRanges bytes.now }
     ensures { result ≡ is_bad_symtab bytes.now table }
 {
@@ -144,7 +145,7 @@ pub fn some_symtab_is_bad(bytes: &[u8]) -> bool
     ensures { result ≡ any_below (is_bad_symtab bytes.now) (count_of bytes.now) }
 {
     for table in 0..section_count(bytes) {
-        if is_bad(bytes, table) {
+        if is_bad_symtab(bytes, table) {
             return true;
         }
     }
@@ -158,7 +159,7 @@ fn first_zero(text: &[u8]) -> Option<usize>
 }
 
 /// The bytes up to the first zero, or all of them.
-fn before_zero(text: &[u8]) -> &[u8]
+pub fn before_zero(text: &[u8]) -> &[u8]
     ensures { result.now ≡ before_first (λ b. b == 0) text.now }
 {
     match first_zero(text) {
@@ -168,7 +169,7 @@ fn before_zero(text: &[u8]) -> &[u8]
 }
 
 /// The bytes up to the first zero, at most `limit` of them. It looks at no more.
-fn start_before_zero(text: &[u8], limit: usize) -> &[u8]
+pub fn start_before_zero(text: &[u8], limit: usize) -> &[u8]
     ensures { result.now ≡ take limit (before_first (λ b. b == 0) text.now) }
 {
     let (start, _) = text.split_at(text.len().min(limit));

@@ -1,6 +1,6 @@
--- What is known of a file without a layout fault: the rows that don't hold, and the sizes of its image.
-use Rattle.std.proofs.Common.{◌≡◌, ℕ, ◌+◌, ◌%◌, ◌^◌, ◌<◌, ◌≤◌, List, [], ◌∷◌, Bool, true, false, not, None, refl, arith}
-use Rattle.std.proofs.lemmas.Bool.{and_parts, not-false, ltb-false}
+-- What is known of a file without a layout fault: the rows that don't hold; and of one whose bytes have numbers: the sizes of its image.
+use Rattle.std.proofs.Common.{◌≡◌, ℕ, ◌+◌, ◌%◌, ◌^◌, ◌<◌, ◌≤◌, List, [], ◌∷◌, Bool, true, false, not, None, refl, ap, arith}
+use Rattle.std.proofs.lemmas.Bool.{and_parts, and_from, not-true, not-false, ltb-false}
 use Rattle.byte_words.specs.Search.{first}
 use Rattle.elf32_reader.specs.Header.{count_of}
 use Rattle.elf32_reader.specs.Sections.{section}
@@ -8,6 +8,7 @@ use Rattle.flat_layout.specs.declared.fault.LayoutFault.TheVariants.{NoSections,
 use Rattle.flat_layout.specs.Numbering.{is_laid_out, has_bytes, is_written, end_of, lowest, highest, raised_start, distance, start_of}
 use Rattle.flat_layout.specs.Layout.{size_of, stored_end, written_from, text_of, layout}
 use Rattle.flat_layout.specs.Fault.{has_sections, some_ends_too_high, is_too_large, has_overlap, has_dynamic, has_tls, is_entry_outside, layout_fault}
+use Rattle.flat_layout.specs.Rows.{has_numbers}
 use Rattle.byte_words.proofs.Searches.{or_parts}
 use Rattle.flat_layout.proofs.Bounds.{greatest_at, greatest_le, least_at, least_le_none}
 
@@ -35,6 +36,26 @@ unfolding layout_fault
 has_no_row e none =
     let rows = no_row (not (has_sections e)) (is_too_large e) (has_overlap e) (has_dynamic e) (has_tls e) (is_entry_outside e) none in
     record { sections = not-false (has_sections e) rows.0; small = rows.1; apart = rows.2; static = rows.3; shared = rows.4; entry = rows.5 }
+
+-- the first three of them don't
+pub record HasNumbers (e : List ℕ) : Type 0 where
+  pub sections : has_sections e ≡ true
+  pub small : is_too_large e ≡ false
+  pub apart : has_overlap e ≡ false
+
+pub numbers_of : (e : List ℕ) → has_numbers e ≡ true → HasNumbers e
+unfolding has_numbers
+numbers_of e is =
+    let whole = and_parts _ _ is in
+    let first = and_parts _ _ whole.0 in
+    record { sections = first.0; small = not-true _ first.1; apart = not-true _ whole.1 }
+
+-- a file without a layout fault has numbers
+pub clear_numbers : (e : List ℕ) → layout_fault e ≡ None → has_numbers e ≡ true
+unfolding has_numbers
+clear_numbers e none =
+    let rows = has_no_row e none in
+    and_from _ _ (and_from _ _ rows.sections (ap not rows.small)) (ap not rows.apart)
 
 lowest_fits : (e : List ℕ) → lowest e ≤ 2 ^ 32
 unfolding lowest
@@ -88,8 +109,8 @@ small_from : (e : List ℕ) → is_too_large e ≡ false → distance e (highest
 unfolding is_too_large
 small_from e h = ltb-false 16777216 (distance e (highest e)) (or_parts (some_ends_too_high e) _ h).1
 
-pub has_sizes : (e : List ℕ) → layout_fault e ≡ None → HasSizes e
-has_sizes e none = record { written = written_le e; stored = stored_le e; small = small_from e (has_no_row e none).small }
+pub has_sizes : (e : List ℕ) → has_numbers e ≡ true → HasSizes e
+has_sizes e is = record { written = written_le e; stored = stored_le e; small = small_from e (numbers_of e is).small }
 
 -- T is a multiple of 32, and not above E
 pub text-multiple : (e : List ℕ) → (layout e).text % 32 ≡ 0
@@ -111,8 +132,8 @@ unfolding layout text_of
 size_of-layout e = let written = written_le e in let stored = stored_le e in omega arith
 
 -- an image has at most 16 MiB
-pub size_le : (e : List ℕ) → layout_fault e ≡ None → size_of (layout e) ≤ 16777216
-size_le e none = let size = size_of-layout e in let sizes = has_sizes e none in omega arith
+pub size_le : (e : List ℕ) → has_numbers e ≡ true → size_of (layout e) ≤ 16777216
+size_le e is = let size = size_of-layout e in let sizes = has_sizes e is in omega arith
 
 -- V0 modulo 2^32 is a number of 32 bits
 pub start_fits : (e : List ℕ) → (layout e).v0 < 2 ^ 32

@@ -1,4 +1,4 @@
--- The numbers of the bytes of a file without a layout fault.
+-- The numbers of the bytes of a file.
 use Rattle.std.proofs.Common.{◌≡◌, ℕ, ◌+◌, ◌-◌, ◌%◌, ◌^◌, ◌<◌, ◌≤◌, ◌≢◌, ◌⊎◌, List, true, false, not, ◌&&◌, None, refl, sym, ◌∙◌, arith, inl, inr, nat_lt, nat_le, nat_eq}
 use Rattle.std.proofs.lemmas.Bool.{and_parts, and_from, and_cases, not-false, ltb-false, leb-true, eqb-true, cases_lt}
 use Rattle.elf32_reader.specs.declared.section.Section.{Section}
@@ -10,8 +10,9 @@ use Rattle.flat_layout.specs.declared.layout.Layout.{Layout}
 use Rattle.flat_layout.specs.Numbering.{is_laid_out, has_bytes, is_executable, end_of, lowest, highest, distance, start_of}
 use Rattle.flat_layout.specs.Layout.{off, size_of, stored_end, layout}
 use Rattle.flat_layout.specs.Fault.{meets, meets_below, has_overlap, holds_code, is_entry_outside, layout_fault}
+use Rattle.flat_layout.specs.Rows.{has_numbers}
 use Rattle.flat_layout.proofs.Bounds.{greatest_at}
-use Rattle.flat_layout.proofs.Facts.{has_no_row, has_sizes, is_raised, lowest_at, highest_at, laid_out, text-data, size_of-layout}
+use Rattle.flat_layout.proofs.Facts.{has_no_row, numbers_of, clear_numbers, has_sizes, is_raised, lowest_at, highest_at, laid_out, text-data, size_of-layout}
 
 -- any number of an address has 32 bits
 pub off_fits : (l : Layout) (a : ℕ) → off l a < 2 ^ 32
@@ -25,12 +26,12 @@ off-shift l a b h = omega arith
 
 -- from L to H the number of an address is its distance from V0
 -- up to H the distance from V0 is small
-distance_small : (e : List ℕ) (a : ℕ) → layout_fault e ≡ None → a ≤ highest e → distance e a ≤ 16777216
+distance_small : (e : List ℕ) (a : ℕ) → has_numbers e ≡ true → a ≤ highest e → distance e a ≤ 16777216
 unfolding distance
 distance_small e a none high = let sizes = has_sizes e none in omega arith
 
 -- from L to H the number of an address is its distance from V0
-pub off-distance : (e : List ℕ) (a : ℕ) → layout_fault e ≡ None → lowest e ≤ a → a ≤ highest e → off (layout e) a ≡ distance e a
+pub off-distance : (e : List ℕ) (a : ℕ) → has_numbers e ≡ true → lowest e ≤ a → a ≤ highest e → off (layout e) a ≡ distance e a
 unfolding off layout start_of distance
 off-distance e a none low high =
     let raised = is_raised e in
@@ -43,7 +44,7 @@ pub record IsNumbered (e : List ℕ) (s : Section) : Type 0 where
   pub above : 0 < distance e s.addr
   pub inside : distance e s.addr + s.size ≤ size_of (layout e)
 
-pub is_numbered : (e : List ℕ) (i : ℕ) → layout_fault e ≡ None → i < count_of e → is_laid_out (section e i) ≡ true → IsNumbered e (section e i)
+pub is_numbered : (e : List ℕ) (i : ℕ) → has_numbers e ≡ true → i < count_of e → is_laid_out (section e i) ≡ true → IsNumbered e (section e i)
 unfolding distance
 is_numbered e i none h laid =
     let low = lowest_at e i h laid in
@@ -57,7 +58,7 @@ is_numbered e i none h laid =
     }
 
 -- the numbers of a section whose bytes stand in the file are below E, which is T + D
-pub stored_inside : (e : List ℕ) (i : ℕ) → layout_fault e ≡ None → i < count_of e → has_bytes (section e i) ≡ true → distance e (section e i).addr + (section e i).size ≤ stored_end e
+pub stored_inside : (e : List ℕ) (i : ℕ) → has_numbers e ≡ true → i < count_of e → has_bytes (section e i) ≡ true → distance e (section e i).addr + (section e i).size ≤ stored_end e
 unfolding stored_end distance
 stored_inside e i none h bytes =
     let low = lowest_at e i h (laid_out e i bytes) in
@@ -66,7 +67,7 @@ stored_inside e i none h bytes =
     omega arith
 
 -- the number of an address of a section, or of its end
-pub off-inside : (e : List ℕ) (i a : ℕ) → layout_fault e ≡ None → i < count_of e → is_laid_out (section e i) ≡ true → (section e i).addr ≤ a → a ≤ end_of (section e i) → off (layout e) a ≡ distance e (section e i).addr + (a - (section e i).addr)
+pub off-inside : (e : List ℕ) (i a : ℕ) → has_numbers e ≡ true → i < count_of e → is_laid_out (section e i) ≡ true → (section e i).addr ≤ a → a ≤ end_of (section e i) → off (layout e) a ≡ distance e (section e i).addr + (a - (section e i).addr)
 unfolding distance
 off-inside e i a none h laid from to =
     let low = lowest_at e i h laid in
@@ -89,11 +90,11 @@ earlier_apart e i j none before h =
     any_below_none (λ k. meets (section e k) (section e j)) j i (any_below_none (meets_below e) (count_of e) j none h) before
 
 -- of two sections of the image one ends before the other begins
-pub sections_apart : (e : List ℕ) (i j : ℕ) → layout_fault e ≡ None → i < count_of e → j < count_of e → i ≢ j → is_laid_out (section e i) ≡ true → is_laid_out (section e j) ≡ true → (end_of (section e i) ≤ (section e j).addr) ⊎ (end_of (section e j) ≤ (section e i).addr)
+pub sections_apart : (e : List ℕ) (i j : ℕ) → has_numbers e ≡ true → i < count_of e → j < count_of e → i ≢ j → is_laid_out (section e i) ≡ true → is_laid_out (section e j) ≡ true → (end_of (section e i) ≤ (section e j).addr) ⊎ (end_of (section e j) ≤ (section e i).addr)
 sections_apart e i j none hi hj differ laid other =
     elim (cases_lt i j) [
-      | inl before ↦ apart_of (section e i) (section e j) laid other (earlier_apart e i j (has_no_row e none).apart before hj)
-      | inr not_before ↦ swapped (apart_of (section e j) (section e i) other laid (earlier_apart e j i (has_no_row e none).apart (omega arith) hi))
+      | inl before ↦ apart_of (section e i) (section e j) laid other (earlier_apart e i j (numbers_of e none).apart before hj)
+      | inr not_before ↦ swapped (apart_of (section e j) (section e i) other laid (earlier_apart e j i (numbers_of e none).apart (omega arith) hi))
     ]
   where
     swapped : {P Q : Type 0} → P ⊎ Q → Q ⊎ P
@@ -101,7 +102,7 @@ sections_apart e i j none hi hj differ laid other =
     swapped (inr q) = inl q
 
 -- and so do their numbers
-pub numbers_apart : (e : List ℕ) (i j : ℕ) → layout_fault e ≡ None → i < count_of e → j < count_of e → i ≢ j → is_laid_out (section e i) ≡ true → is_laid_out (section e j) ≡ true → (distance e (section e i).addr + (section e i).size ≤ distance e (section e j).addr) ⊎ (distance e (section e j).addr + (section e j).size ≤ distance e (section e i).addr)
+pub numbers_apart : (e : List ℕ) (i j : ℕ) → has_numbers e ≡ true → i < count_of e → j < count_of e → i ≢ j → is_laid_out (section e i) ≡ true → is_laid_out (section e j) ≡ true → (distance e (section e i).addr + (section e i).size ≤ distance e (section e j).addr) ⊎ (distance e (section e j).addr + (section e j).size ≤ distance e (section e i).addr)
 unfolding distance
 numbers_apart e i j none hi hj differ laid other =
     let low = lowest_at e i hi laid in
@@ -149,9 +150,9 @@ has_entry_at e i none aligned h holds =
     let low = lowest_at e i h laid in
     let high = highest_at e i h laid in
     let raised = is_raised e in
-    let number = off-distance e (entry_of e) none (omega arith) (omega arith) in
+    let number = off-distance e (entry_of e) (clear_numbers e none) (omega arith) (omega arith) in
     let off_is = entry_number e in
-    let stored = stored_inside e i none h code.bytes in
+    let stored = stored_inside e i (clear_numbers e none) h code.bytes in
     let end = text-data e in
     record { number = sym off_is ∙ number; off = off_is; aligned = omega arith; above = omega arith; inside = omega arith }
 

@@ -44,8 +44,9 @@ pub enum LayoutFault {
     EntryOutside,
 }
 
+/// Whether some section has a place in the image.
 #[tactic(auto, using(byte_words::proofs::Searches::any_below_zero, byte_words::proofs::Searches::any_below_more), unfolding(crate::specs::Fault::has_sections))]
-fn has_sections(elf: &Elf<'_>) -> bool
+pub fn has_sections(elf: &Elf<'_>) -> bool
     ensures { result ≡ has_sections elf.now }
 {
     for index in 0..elf.sections() {
@@ -56,14 +57,16 @@ fn has_sections(elf: &Elf<'_>) -> bool
     false
 }
 
-fn ends_too_high(section: &Section) -> bool
+/// Whether a section of the image ends above 2^32.
+pub fn ends_too_high(section: &Section) -> bool
     ensures { result ≡ ends_too_high section.now }
 {
     is_laid_out(section) && end_of(section) > ADDRESS_END
 }
 
+/// Whether some section of the image does.
 #[tactic(auto, using(byte_words::proofs::Searches::any_below_zero, byte_words::proofs::Searches::any_below_more), unfolding(crate::specs::Fault::some_ends_too_high))]
-fn some_ends_too_high(elf: &Elf<'_>) -> bool
+pub fn some_ends_too_high(elf: &Elf<'_>) -> bool
     ensures { result ≡ some_ends_too_high elf.now }
 {
     for index in 0..elf.sections() {
@@ -74,14 +77,16 @@ fn some_ends_too_high(elf: &Elf<'_>) -> bool
     false
 }
 
+/// Whether a section ends above 2^32, or the image is too large.
 #[tactic(auto, unfolding(crate::specs::Fault::is_too_large, crate::specs::Numbering::distance))]
-fn is_too_large(elf: &Elf<'_>) -> bool
+pub fn is_too_large(elf: &Elf<'_>) -> bool
     ensures { result ≡ is_too_large elf.now }
 {
     some_ends_too_high(elf) || distance(raised_start(elf), highest(elf)) > MAX_SIZE
 }
 
-fn meets(section: &Section, other: &Section) -> bool
+/// Whether two sections of the image have a common byte.
+pub fn meets(section: &Section, other: &Section) -> bool
     ensures { result ≡ meets section.now other.now }
 {
     is_laid_out(section)
@@ -92,7 +97,7 @@ fn meets(section: &Section, other: &Section) -> bool
 
 /// Whether a section below `index` has a byte in common with the one at `index`.
 #[tactic(auto, using(byte_words::proofs::Searches::any_below_zero, byte_words::proofs::Searches::any_below_more), unfolding(crate::specs::Fault::meets_below))]
-fn meets_below(elf: &Elf<'_>, index: u32) -> bool
+pub fn meets_below(elf: &Elf<'_>, index: u32) -> bool
     requires { index < count_of elf.now }
     ensures { result ≡ meets_below elf.now index }
 {
@@ -105,8 +110,9 @@ fn meets_below(elf: &Elf<'_>, index: u32) -> bool
     false
 }
 
+/// Whether some two sections of the image do.
 #[tactic(auto, using(byte_words::proofs::Searches::any_below_zero, byte_words::proofs::Searches::any_below_more), unfolding(crate::specs::Fault::has_overlap))]
-fn has_overlap(elf: &Elf<'_>) -> bool
+pub fn has_overlap(elf: &Elf<'_>) -> bool
     ensures { result ≡ has_overlap elf.now }
 {
     for index in 0..elf.sections() {
@@ -117,7 +123,8 @@ fn has_overlap(elf: &Elf<'_>) -> bool
     false
 }
 
-fn is_dynamic(section: &Section) -> bool
+/// Whether a section of the image is for a dynamic linker.
+pub fn is_dynamic(section: &Section) -> bool
     ensures { result ≡ is_dynamic section.now }
 {
     is_laid_out(section) && matches!(section.kind, SHT_DYNAMIC | SHT_DYNSYM | SHT_RELA | SHT_REL)
@@ -135,7 +142,8 @@ fn has_dynamic(elf: &Elf<'_>) -> bool
     false
 }
 
-fn is_tls(section: &Section) -> bool
+/// Whether a section of the image is thread-local.
+pub fn is_tls(section: &Section) -> bool
     ensures { result ≡ is_tls section.now }
 {
     is_laid_out(section) && section.flags & SHF_TLS != 0
@@ -175,8 +183,9 @@ fn some_holds_code(elf: &Elf<'_>, address: u32) -> bool
     false
 }
 
+/// Whether the program begins at no whole instruction of stored code.
 #[tactic(auto, unfolding(crate::specs::Fault::is_entry_outside))]
-fn is_entry_outside(elf: &Elf<'_>) -> bool
+pub fn is_entry_outside(elf: &Elf<'_>) -> bool
     ensures { result ≡ is_entry_outside elf.now }
 {
     let entry = elf.entry();

@@ -1,11 +1,14 @@
 //! The sizes of an image, and where its program begins.
 
-ghost use Rattle.std.specs.Prelude.{◌≡◌, MatchResult};
+ghost use Rattle.std.specs.Prelude.{◌≡◌, true, MatchResult, IfSome};
+ghost use Rattle.std.specs.Option.{is_some};
 ghost use Rattle.flat_layout.specs.Fault.{layout_fault};
 ghost use Rattle.flat_layout.specs.Layout.{layout, off};
+ghost use Rattle.flat_layout.specs.Rows.{has_numbers};
 
 use crate::fault::{LayoutFault, layout_fault};
 use crate::numbering::{ADDRESS_END, distance, highest, raised_start, stored_end, written_from};
+use crate::rows::has_numbers;
 use elf32_reader::Elf;
 
 /// Text ends at a multiple of it.
@@ -35,12 +38,26 @@ impl Layout {
     /// # Errors
     ///
     /// The first row of `LayoutFault` that holds. It takes no memory.
+    #[tactic(auto, using(crate::proofs::Facts::clear_numbers))]
     pub fn of(elf: &Elf<'_>) -> Result<Layout, LayoutFault>
         ensures { MatchResult result (λ l. (layout_fault elf.now ≡ None) × (l ≡ layout elf.now)) (λ f. layout_fault elf.now ≡ Some f) }
     {
         match layout_fault(elf) {
             Some(fault) => Err(fault),
             None => Ok(lay_out(elf)),
+        }
+    }
+
+    /// The layout of sections whose bytes have numbers: none where a row of `LayoutFault` up to 3 holds, whether a later
+    /// one does or not. It takes no memory.
+    pub fn numbers(elf: &Elf<'_>) -> Option<Layout>
+        ensures there { is_some result ≡ has_numbers elf.now }
+        ensures value { IfSome result (λ l. l ≡ layout elf.now) }
+    {
+        if has_numbers(elf) {
+            Some(lay_out(elf))
+        } else {
+            None
         }
     }
 
@@ -56,7 +73,7 @@ impl Layout {
 
 #[tactic(auto, unfolding(crate::specs::Layout::layout, crate::specs::Layout::text_of, crate::specs::Numbering::start_of, crate::specs::Numbering::distance))]
 fn lay_out(elf: &Elf<'_>) -> Layout
-    requires { layout_fault elf.now ≡ None }
+    requires { has_numbers elf.now ≡ true }
     ensures { result ≡ layout elf.now }
 {
     let raised = raised_start(elf);

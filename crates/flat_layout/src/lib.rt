@@ -8,7 +8,9 @@
 mod fault;
 mod layout;
 mod numbering;
+mod rows;
 
-pub use fault::LayoutFault;
+pub use fault::{LayoutFault, has_sections, is_entry_outside, meets};
 pub use layout::Layout;
 pub use numbering::has_bytes;
+pub use rows::holds;

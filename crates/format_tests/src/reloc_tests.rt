@@ -225,6 +225,7 @@ fn is_kept(elf: &Elf<'_>) -> bool
 }
 
 /// Whether an entry is as it has to be, in a file that has a layout.
+#[tactic(auto, using(flat_layout::proofs::Facts::clear_numbers))]
 fn is_judged(
     alloc: Global,
     file: &[u8],

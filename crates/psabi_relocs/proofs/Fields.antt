@@ -9,8 +9,9 @@ use Rattle.elf32_reader.specs.Relas.{is_kept}
 use Rattle.byte_words.proofs.Searches.{or_parts, and_rest, any_below_none}
 use Rattle.elf32_reader.proofs.Places.{is_kept_info, is_kept_allocated}
 use Rattle.flat_layout.specs.Numbering.{is_laid_out, end_of}
-use Rattle.flat_layout.specs.Fault.{ends_too_high, some_ends_too_high, is_too_large, layout_fault}
-use Rattle.flat_layout.proofs.Facts.{has_no_row}
+use Rattle.flat_layout.specs.Fault.{ends_too_high, some_ends_too_high, is_too_large}
+use Rattle.flat_layout.specs.Rows.{has_numbers}
+use Rattle.flat_layout.proofs.Facts.{numbers_of}
 use Rattle.psabi_relocs.specs.declared.reloc.Reloc.{Reloc}
 use Rattle.psabi_relocs.specs.declared.row.Row.{Row}
 use Rattle.psabi_relocs.specs.declared.row.Row.TheVariants.{GotHi20}
@@ -41,14 +42,14 @@ holds_second s a h =
     and_from _ _ (and_from _ _ parts.stored (le-leb s.addr (a + 4) (omega arith))) (le-leb (a + 4 + 4) (end_of s) (omega arith))
 
 -- a section of the image ends at 2^32 at the latest
-pub end_fits : (e : List ℕ) (i : ℕ) → layout_fault e ≡ None → i < count_of e → is_laid_out (section e i) ≡ true → end_of (section e i) ≤ 2 ^ 32
+pub end_fits : (e : List ℕ) (i : ℕ) → has_numbers e ≡ true → i < count_of e → is_laid_out (section e i) ≡ true → end_of (section e i) ≤ 2 ^ 32
 unfolding is_too_large some_ends_too_high
 end_fits e i none below laid =
-    let small = (or_parts (some_ends_too_high e) _ (has_no_row e none).small).0 in
+    let small = (or_parts (some_ends_too_high e) _ (numbers_of e none).small).0 in
     ltb-false (2 ^ 32) (end_of (section e i)) (and_rest _ _ (any_below_none (λ k. ends_too_high (section e k)) (count_of e) i small below) laid)
 
 -- so the second word has an address
-pub second_fits : (e : List ℕ) (i a : ℕ) → layout_fault e ≡ None → is_kept e i ≡ true → holds (target_section e i) a 8 ≡ true → a + 8 ≤ 2 ^ 32
+pub second_fits : (e : List ℕ) (i a : ℕ) → has_numbers e ≡ true → is_kept e i ≡ true → holds (target_section e i) a 8 ≡ true → a + 8 ≤ 2 ^ 32
 second_fits e i a none kept h =
     let parts = holds_parts (target_section e i) a 8 h in
     let some : nat_lt 0 (target_section e i).size ≡ true = lt-ltb 0 (target_section e i).size (omega arith) in

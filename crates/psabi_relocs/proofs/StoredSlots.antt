@@ -10,7 +10,7 @@ use Rattle.elf32_reader.specs.declared.section.Section.{Section}
 use Rattle.elf32_reader.specs.Header.{count_of}
 use Rattle.elf32_reader.specs.Sections.{section, is_allocated}
 use Rattle.flat_layout.specs.Numbering.{is_laid_out, has_bytes, end_of}
-use Rattle.flat_layout.specs.Fault.{layout_fault}
+use Rattle.flat_layout.specs.Rows.{has_numbers}
 use Rattle.flat_layout.proofs.Facts.{laid_out}
 use Rattle.flat_layout.proofs.Numbers.{sections_apart}
 use Rattle.psabi_relocs.specs.declared.stored.StoredSections.{StoredSections}
@@ -50,7 +50,7 @@ laid_size : (s : Section) → is_laid_out s ≡ true → 0 < s.size
 laid_size s h = ltb-true _ _ (and_parts _ _ h).1
 
 -- a section with the slot at a is the last one that begins at or below a
-slot_is_last : (e : List ℕ) (a first i k : ℕ) → layout_fault e ≡ None
+slot_is_last : (e : List ℕ) (a first i k : ℕ) → has_numbers e ≡ true
     → i < count_of e → begins e first i ≡ true → first ≤ a
     → ((q : ℕ) → q ≤ a → first < q → first_below (begins e q) (count_of e) ≡ None)
     → k < count_of e → holds_slot a (section e k) ≡ true → k ≡ i
@@ -73,7 +73,7 @@ slot_is_last e a first i k none below starts low last within slot =
     ]
 
 -- so the section of the slot is that one, or none
-slot_section-last : (e : List ℕ) (a first i : ℕ) → layout_fault e ≡ None
+slot_section-last : (e : List ℕ) (a first i : ℕ) → has_numbers e ≡ true
     → first_below (begins e first) (count_of e) ≡ Some i → first ≤ a
     → ((q : ℕ) → q ≤ a → first < q → first_below (begins e q) (count_of e) ≡ None)
     → slot_section e a ≡ (if holds_slot a (section e i) then Some i else None)
@@ -116,7 +116,7 @@ IsLast s a i =
 pub last-below : (e : List ℕ) (a i : ℕ) (s : StoredSections) → AreStored e s → IsLast s a i → i < count_of e
 last-below e a i s stored last = (first_below_passes (begins e last.0) (count_of e) i (sym (stored.firsts last.0) ∙ last.2)).0
 
-pub slot_from_last : (e : List ℕ) (a i : ℕ) (s : StoredSections) → layout_fault e ≡ None → AreStored e s → IsLast s a i
+pub slot_from_last : (e : List ℕ) (a i : ℕ) (s : StoredSections) → has_numbers e ≡ true → AreStored e s → IsLast s a i
     → slot_section e a ≡ (if holds_slot a (section e i) then Some i else None)
 slot_from_last e a i s none stored last =
     slot_section-last e a last.0 i none (sym (stored.firsts last.0) ∙ last.2) last.1 (λ q low behind. sym (stored.firsts q) ∙ last.3 q low behind)

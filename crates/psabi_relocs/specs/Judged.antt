@@ -3,7 +3,7 @@ use Rattle.std.specs.Prelude.{◌≡◌, ℕ, true, List, Option, None, Some, If
 use Rattle.std.specs.Option.{option_map}
 use Rattle.elf32_reader.specs.Accepted.{IsAccepted}
 use Rattle.elf32_reader.specs.Relas.{is_kept}
-use Rattle.flat_layout.specs.Fault.{layout_fault}
+use Rattle.flat_layout.specs.Rows.{has_numbers}
 use Rattle.psabi_relocs.specs.declared.pairs.Pairs.{Pairs}
 use Rattle.psabi_relocs.specs.declared.stored.StoredSections.{StoredSections}
 use Rattle.psabi_relocs.specs.declared.reloc.Reloc.{Reloc}
@@ -25,11 +25,11 @@ pub record SectionOfFile : Type 0 where
   pub file : List ℕ
   pub section : ℕ
 
--- the section is kept, in a file that was read and has a layout, and the indexes are those of the file and of the section
+-- the section is kept, in a file that was read and whose bytes have numbers, and the indexes are those of the file and of the section
 pub record IsIndexed (e : List ℕ) (i : ℕ) (s : StoredSections) (p : Pairs) : Type 0 where
   pub accepted : IsAccepted e
   pub kept : is_kept e i ≡ true
-  pub no_fault : layout_fault e ≡ None
+  pub numbers : has_numbers e ≡ true
   pub stored : AreStored e s
   pub pairs : IsPairs e i p
 

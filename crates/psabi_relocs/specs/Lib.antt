@@ -1,6 +1,7 @@
 -- Search: the first index that passes.
 -- Class: what a symbol's value does when the image moves.
 -- Row: the rows of the table of relocation types.
+-- Names: the names of these types.
 -- Reloc: the entries of a kept section with their symbols.
 -- Bytes: the linked bytes by address.
 -- Pair: high parts and low parts.
@@ -19,6 +20,7 @@
 pub mod Search
 pub mod Class
 pub mod Row
+pub mod Names
 pub mod Reloc
 pub mod Bytes
 pub mod Pair

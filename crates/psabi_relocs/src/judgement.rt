@@ -2,7 +2,7 @@
 
 ghost use Rattle.std.specs.Prelude.{◌≡◌, ◌<◌, true, None, Some, MatchResult};
 ghost use Rattle.elf32_reader.specs.Relas.{is_kept, rela_count};
-ghost use Rattle.flat_layout.specs.Fault.{layout_fault};
+ghost use Rattle.flat_layout.specs.Rows.{has_numbers};
 ghost use Rattle.psabi_relocs.specs.Fault.{reloc_fault};
 ghost use Rattle.psabi_relocs.specs.Effect.{effect, spans, listed};
 ghost use Rattle.psabi_relocs.specs.Judged.{Judges};
@@ -77,7 +77,7 @@ pub fn check(
 ) -> Result<Checked, RelocFault>
     requires kept { is_kept elf.now section ≡ true }
     requires index { index < rela_count elf.now section }
-    requires no_fault { layout_fault elf.now ≡ None }
+    requires numbers { has_numbers elf.now ≡ true }
     requires stored { AreStored elf.now stored.now }
     requires pairs { IsPairs elf.now section pairs.now }
     ensures { MatchResult result
@@ -110,7 +110,7 @@ pub fn spans_at(
 ) -> Spans
     requires kept { is_kept elf.now section ≡ true }
     requires index { index < rela_count elf.now section }
-    requires no_fault { layout_fault elf.now ≡ None }
+    requires numbers { has_numbers elf.now ≡ true }
     requires stored { AreStored elf.now stored.now }
     requires pairs { IsPairs elf.now section pairs.now }
     ensures { listed result ≡ spans elf.now section index }

@@ -1,8 +1,8 @@
 //! A kept section with the indexes by which its entries are judged.
 
-ghost use Rattle.std.specs.Prelude.{◌≡◌, ◌<◌, true, None};
+ghost use Rattle.std.specs.Prelude.{◌≡◌, ◌<◌, true};
 ghost use Rattle.elf32_reader.specs.Relas.{is_kept, rela_count};
-ghost use Rattle.flat_layout.specs.Fault.{layout_fault};
+ghost use Rattle.flat_layout.specs.Rows.{has_numbers};
 ghost use Rattle.psabi_relocs.specs.Reloc.{reloc, target_section};
 ghost use Rattle.psabi_relocs.specs.Bytes.{holds, word_in};
 
@@ -55,7 +55,7 @@ impl KeptSection<'_, '_> {
     pub fn word(&self, place: u32) -> u32
         requires { holds (target_section self.now.file self.now.section) place 4 ≡ true }
         ensures kept { is_kept self.now.file self.now.section ≡ true }
-        ensures no_fault { layout_fault self.now.file ≡ None }
+        ensures numbers { has_numbers self.now.file ≡ true }
         ensures word { result ≡ word_in self.now.file (target_section self.now.file self.now.section) place }
     {
         linked_word(self.elf, self.elf.section(self.section).info, place)

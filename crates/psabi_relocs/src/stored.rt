@@ -1,13 +1,13 @@
 //! The index of the stored sections of an image.
 
-ghost use Rattle.std.specs.Prelude.{◌≡◌, ℕ, ◌&&◌, ◌==◌, ◌<◌, ◌≤◌, if◌then◌else◌, None, Some, IfOk, OnOk, MatchOption};
+ghost use Rattle.std.specs.Prelude.{◌≡◌, ℕ, ◌&&◌, ◌==◌, ◌<◌, ◌≤◌, if◌then◌else◌, true, None, Some, IfOk, OnOk, MatchOption};
 ghost use Rattle.std.specs.Ordering.{nat_cmp};
 ghost use Rattle.std.specs.Option.{option_or};
 ghost use Rattle.std.specs.BTreeMap as tree;
 ghost use Rattle.elf32_reader.specs.Header.{count_of};
 ghost use Rattle.elf32_reader.specs.Sections.{section};
 ghost use Rattle.flat_layout.specs.Numbering.{has_bytes};
-ghost use Rattle.flat_layout.specs.Fault.{layout_fault};
+ghost use Rattle.flat_layout.specs.Rows.{has_numbers};
 ghost use Rattle.psabi_relocs.specs.Search.{first_below};
 ghost use Rattle.psabi_relocs.specs.Slot.{holds_slot, slot_section};
 ghost use Rattle.psabi_relocs.specs.Index.{AreStored};
@@ -91,7 +91,7 @@ impl StoredSections {
 
     /// The section that holds the four bytes at an address.
     pub(crate) fn slot_section(&self, elf: &Elf<'_>, address: u32) -> Option<u32>
-        requires no_fault { layout_fault elf.now ≡ None }
+        requires numbers { has_numbers elf.now ≡ true }
         requires stored { AreStored elf.now self.now }
         ensures { result ≡ slot_section elf.now address }
     {

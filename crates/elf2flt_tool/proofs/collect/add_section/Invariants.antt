@@ -6,6 +6,6 @@ use Rattle.elf2flt_tool.proofs.collect.add_section.Given as goal
 -- what the entries so far have left, and none had a fault
 abbrev pub invariant-loop-entry : goal.invariant-loop-entry
 invariant-loop-entry l = record {
-  none : first_some (entry_fault l.elf l.section) l.entry ≡ None;
-  found : IsFound l.elf l.section l.entry l.cover;
+  none : first_some (entry_fault l.walk l.section) l.entry ≡ None;
+  found : IsFound l.walk l.section l.entry l.cover;
 }

@@ -6,6 +6,6 @@ use Rattle.elf2flt_tool.proofs.collect.cover_all.Given as goal
 -- what the sections so far have left, and none had a fault
 abbrev pub invariant-loop-section : goal.invariant-loop-section
 invariant-loop-section l = record {
-  none : first_some (section_fault l.elf) l.section ≡ None;
-  found : IsFound l.elf l.section 0 l.cover;
+  none : first_some (section_fault l.walk) l.section ≡ None;
+  found : IsFound l.walk l.section 0 l.cover;
 }

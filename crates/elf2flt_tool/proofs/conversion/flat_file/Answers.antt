@@ -1,6 +1,6 @@
 use Rattle.std.proofs.Common.{inl, inr}
 use Rattle.std.proofs.lemmas.Result.{err_from_is_err_and}
-use Rattle.elf2flt_tool.proofs.Faults.{fault-elf, fault-layout, fault-relocs}
+use Rattle.elf2flt_tool.proofs.FaultOrder.{fault-elf, fault-layout, fault-relocs}
 use Rattle.elf2flt_tool.proofs.conversion.flat_file.Goals as goal
 
 pub returns-in_err-elf : goal.returns-in_err-elf

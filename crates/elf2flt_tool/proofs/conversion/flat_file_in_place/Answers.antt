@@ -1,7 +1,7 @@
 use Rattle.std.proofs.Common.{inl, inr, arith, rules}
 use Rattle.std.proofs.lemmas.Result.{err_from_is_err_and}
-use Rattle.elf2flt_tool.proofs.Faults.{fault-elf, fault-layout, fault-relocs}
-use Rattle.flat_layout.proofs.Facts.{size_le}
+use Rattle.elf2flt_tool.proofs.FaultOrder.{fault-elf, fault-layout, fault-relocs}
+use Rattle.flat_layout.proofs.Facts.{clear_numbers, size_le}
 use Rattle.elf2flt_tool.specs.Image.{IsLinkedFile}
 use Rattle.elf2flt_tool.specs.Walk.{IsPrepared}
 use Rattle.elf2flt_tool.proofs.Slid.{slid_linked}
@@ -36,7 +36,7 @@ pub linked_len-requires : goal.linked_len-requires
 linked_len-requires c =
     let read = rw c.deref.ensures.value at c.in_ok-elf.ensures in
     let laid = rw read.1 at c.in_ok-layout.ensures in
-    let small = size_le c.args.bytes.items laid.0 in
+    let small = size_le c.args.bytes.items (clear_numbers c.args.bytes.items laid.0) in
     rw laid.1 (omega arith)
 
 pub slid_file-requires-clause-header : goal.slid_file-requires-clause-header

@@ -18,6 +18,8 @@ use Rattle.elf2flt_tool.specs.declared.placed.Placed.{Placed}
 use Rattle.elf2flt_tool.specs.Converted.{number_patch, converted}
 use Rattle.elf2flt_tool.proofs.Recorded.{is_clear, is_linked}
 use Rattle.elf2flt_tool.proofs.Ascending.{places_inside, are_apart}
+use Rattle.flat_layout.proofs.Facts.{clear_numbers}
+use Rattle.flat_layout.proofs.Numbers.{has_entry}
 use Rattle.elf2flt_tool.proofs.Laid.{is_laid}
 use Rattle.elf2flt_tool.proofs.Spelled.{spells_converted}
 use Rattle.elf2flt_tool.proofs.Assembled.{assembled}
@@ -67,8 +69,10 @@ with_numbers-file-requires-clause-header c = c.requires.prepared.1.linked.header
 pub overflow_add-entry : goal.overflow_add-entry
 overflow_add-entry c =
     let is = c.requires.prepared.1 in
-    let laid = is_laid c.requires.prepared.0 is.no_fault in
-    let inside = laid.entry_inside in
+    let laid = is_laid c.requires.prepared.0 (clear_numbers c.requires.prepared.0 is.no_fault) in
+    let program = has_entry c.requires.prepared.0 is.no_fault in
+    let inside = program.inside in
+    let stored = laid.stored in
     let fits = laid.fits in
     let small = laid.small in
     rw is.layout (omega arith)

@@ -5,7 +5,7 @@ use Rattle.byte_words.proofs.Painting.{length-bytes_below}
 use Rattle.bflt_format.specs.Flat.{behind_header}
 use Rattle.flat_layout.specs.declared.layout.Layout.{Layout}
 use Rattle.flat_layout.specs.Layout.{layout, size_of}
-use Rattle.flat_layout.proofs.Facts.{size_le}
+use Rattle.flat_layout.proofs.Facts.{clear_numbers, size_le}
 use Rattle.elf2flt_tool.specs.declared.placed.Placed.{Placed}
 use Rattle.elf2flt_tool.specs.declared.refusal.Refusal.TheVariants as refusals
 use Rattle.elf2flt_tool.specs.Image.{bare}
@@ -13,7 +13,7 @@ use Rattle.elf2flt_tool.specs.Fault.{address_of}
 use Rattle.elf2flt_tool.specs.Walk.{IsPrepared}
 use Rattle.elf2flt_tool.specs.Word.{places, lowest, records, word_at, points_outside, target_outside}
 use Rattle.elf2flt_tool.proofs.Recorded.{IsLinked, IsClear}
-use Rattle.elf2flt_tool.proofs.Faults.{fault-clear, fault-target, fault-overlap}
+use Rattle.elf2flt_tool.proofs.FaultOrder.{fault-clear, fault-target, fault-overlap}
 use Rattle.elf2flt_tool.proofs.Ascending.{places_inside, outside-tested}
 use Rattle.elf2flt_tool.proofs.conversion.test_words.Goals as goal
 
@@ -46,7 +46,7 @@ lowest_outside-requires c =
     let are = c.deref.ensures.value ∙ is.placed.places in
     let len : length (take (length file - 64) (drop 64 file)) ≡ (layout e).text + (layout e).data_len =
     ap length (take_rest file 64 ∙ is.linked.image) ∙ length-bytes_below ((layout e).text + (layout e).data_len) (bare e) in
-    let small = size_le e is.no_fault in
+    let small = size_le e (clear_numbers e is.no_fault) in
     record {
       small = rw is.layout (omega arith);
       inside = subst (λ ps. All (λ p. p + 4 ≤ length (take (length file - 64) (drop 64 file))) ps) (sym are) (subst (λ n. All (λ p. p + 4 ≤ n) (records e)) (sym len) (places_inside e is.accepted.bytes (is_linked_of e l file c.args.placed.now is)));

@@ -4,7 +4,7 @@ use Rattle.std.proofs.lemmas.List.FromFn.{map-range_with_len_more}
 use Rattle.elf32_reader.specs.Header.{count_of}
 use Rattle.byte_words.specs.Patches.{painted, bytes_below}
 use Rattle.byte_words.proofs.Painting.{length-bytes_below}
-use Rattle.flat_layout.proofs.Facts.{text-data, laid_out}
+use Rattle.flat_layout.proofs.Facts.{clear_numbers, text-data, laid_out}
 use Rattle.flat_layout.proofs.Numbers.{is_numbered, stored_inside}
 use Rattle.elf2flt_tool.specs.Image.{section_patch, bare}
 use Rattle.elf2flt_tool.proofs.Painted.{below-push, below-zeros, section_patch-stored}
@@ -17,7 +17,7 @@ pub lay_section-requires-clause-fits : goal.lay_section-requires-clause-fits
 lay_section-requires-clause-fits c = λ is.
     let e = c.args.elf.now in
     let i = c.loop-index.index in
-    let none = c.requires.no_fault in
+    let none = clear_numbers e c.requires.no_fault in
     let below : i < count_of e = omega (arith, c.sections-index-end.ensures.count) in
     let inside = stored_inside e i none below is in
     let number = (is_numbered e i none below (laid_out e i is)).number in

@@ -4,14 +4,14 @@ use Rattle.byte_words.specs.Patches.{bytes_below}
 use Rattle.byte_words.proofs.Painting.{length-bytes_below}
 use Rattle.bflt_format.specs.Flat.{behind_header}
 use Rattle.flat_layout.specs.declared.layout.Layout.{Layout}
-use Rattle.flat_layout.proofs.Facts.{size_le}
+use Rattle.flat_layout.proofs.Facts.{clear_numbers, size_le}
 use Rattle.elf2flt_tool.specs.Image.{bare}
 use Rattle.elf2flt_tool.proofs.Painted.{header_back, image_back}
 use Rattle.elf2flt_tool.proofs.image.linked_file.Goals as goal
 
 pub linked_len-requires : goal.linked_len-requires
 linked_len-requires c =
-    let small = size_le c.args.elf.now c.requires.no_fault in
+    let small = size_le c.args.elf.now (clear_numbers c.args.elf.now c.requires.no_fault) in
     rw c.requires.layout (omega arith)
 
 pub lay_sections-requires-clause-zeros : goal.lay_sections-requires-clause-zeros

@@ -8,8 +8,9 @@ use Rattle.elf2flt_tool.proofs.met.lower_in_section.Goals as goal
 
 pub returns : goal.returns
 returns c =
-    let e = c.args.elf.now in
+    let e = c.args.walk.now in
     let i = c.args.section in
-    let all : c.loop-entry.entry ≡ rela_count e i = omega (arith, c.relas-entry-end.ensures.count) in
+    let count = rw c.walk.view_is at c.relas-entry-end.ensures.count in
+    let all : c.loop-entry.entry ≡ rela_count e i = omega (arith, count) in
     c.loop-entry.invariant ∙ ap (λ j. lowest_met c.args.cover.now (recorded_before e i j)) all
     ∙ ap (λ es. lowest_met c.args.cover.now (flat_map (recorded_of (layout e)) es)) (before-kept e i c.requires.kept)

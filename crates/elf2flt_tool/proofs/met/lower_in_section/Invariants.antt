@@ -5,4 +5,4 @@ use Rattle.elf2flt_tool.proofs.met.lower_in_section.Given as goal
 
 -- the least of the words of the entries so far
 abbrev pub invariant-loop-entry : goal.invariant-loop-entry
-invariant-loop-entry l = l.least ≡ lowest_met l.cover (recorded_before l.elf l.section l.entry)
+invariant-loop-entry l = l.least ≡ lowest_met l.cover (recorded_before l.walk l.section l.entry)

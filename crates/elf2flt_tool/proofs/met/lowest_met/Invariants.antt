@@ -5,4 +5,4 @@ use Rattle.elf2flt_tool.proofs.met.lowest_met.Given as goal
 
 -- the least of the words of the sections so far
 abbrev pub invariant-loop-section : goal.invariant-loop-section
-invariant-loop-section l = l.least ≡ lowest_met l.cover (recorded_before l.elf l.section 0)
+invariant-loop-section l = l.least ≡ lowest_met l.cover (recorded_before l.walk l.section 0)

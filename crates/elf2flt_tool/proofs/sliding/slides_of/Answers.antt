@@ -3,7 +3,7 @@ use Rattle.elf32_reader.specs.Header.{count_of}
 use Rattle.elf32_reader.specs.Sections.{section}
 use Rattle.flat_layout.specs.Numbering.{has_bytes}
 use Rattle.flat_layout.specs.Layout.{layout}
-use Rattle.flat_layout.proofs.Facts.{size_le}
+use Rattle.flat_layout.proofs.Facts.{clear_numbers, size_le}
 use Rattle.std.specs.List.{range_with_len}
 use Rattle.byte_words.specs.Patches.{painted, bytes_below}
 use Rattle.elf2flt_tool.specs.declared.slide.Slide.{Slide}
@@ -22,7 +22,7 @@ overflow_add-end c =
     let i = c.loop-index.index in
     let is : has_bytes (section e i) ≡ true = sym (rw c.section.ensures at c.if-has_bytes.ensures) in
     let inside = (is_inside e i c.sections-index-end.ensures.accepted.no_fault c.requires.no_fault (omega (arith, c.sections-index-end.ensures.count)) is).to in
-    let small = size_le e c.requires.no_fault in
+    let small = size_le e (clear_numbers e c.requires.no_fault) in
     rw c.slide_of-slide.ensures (omega (arith, inside, small))
 
 pub loop-index-preserved : goal.loop-index-preserved

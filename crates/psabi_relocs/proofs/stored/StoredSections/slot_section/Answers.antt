@@ -14,12 +14,12 @@ pub returns-then-holds_slot : goal.returns-then-holds_slot
 returns-then-holds_slot c =
     let i = c.in_ok-index.index in
     let holds = rw c.section.ensures at c.if-holds_slot.ensures in
-    let slot = slot_from_last c.args.elf.now c.args.address i c.args.self.now c.requires.no_fault c.requires.stored c.in_ok-index.ensures in
+    let slot = slot_from_last c.args.elf.now c.args.address i c.args.self.now c.requires.numbers c.requires.stored c.in_ok-index.ensures in
     sym (slot ∙ ap (λ b. if b then Some i else None) (sym holds))
 
 pub returns-else-holds_slot : goal.returns-else-holds_slot
 returns-else-holds_slot c =
     let i = c.in_ok-index.index in
     let lacks = rw c.section.ensures at c.if-holds_slot.ensures in
-    let slot = slot_from_last c.args.elf.now c.args.address i c.args.self.now c.requires.no_fault c.requires.stored c.in_ok-index.ensures in
+    let slot = slot_from_last c.args.elf.now c.args.address i c.args.self.now c.requires.numbers c.requires.stored c.in_ok-index.ensures in
     sym (slot ∙ ap (λ b. if b then Some i else None) (sym lacks))
