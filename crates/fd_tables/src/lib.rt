@@ -22,5 +22,6 @@ mod view;
 pub use fault::FdFault;
 pub use files::Files;
 pub use laws::counts_law;
+pub use pipe::MOST_HELD;
 pub use pipe_view::{Ends, PipeView};
 pub use view::{Target, View, Way};

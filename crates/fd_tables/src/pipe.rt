@@ -9,7 +9,7 @@ use std::alloc::{AllocError, Global};
 use std::marker::Model;
 
 /// The most bytes that a pipe holds.
-pub(crate) const MOST_HELD: usize = 65_536;
+pub const MOST_HELD: u32 = 65_536;
 
 /// A pipe: what was written and not read yet, and which of its ends are open.
 #[derive(Drop)]
@@ -39,7 +39,7 @@ impl Pipe {
     {
         Ok(Pipe {
             id,
-            ring: HeapCircularBuffer::with_capacity(alloc, MOST_HELD)?,
+            ring: HeapCircularBuffer::with_capacity(alloc, MOST_HELD as usize)?,
             read_open: true,
             write_open: true,
         })

@@ -14,7 +14,7 @@ ghost use Rattle.file_calls.specs.declared.outcome.Then.TheVariants.{Move, Take,
 
 use crate::call::Call;
 use crate::outcome::{Outcome, Then};
-use crate::piece::Piece;
+use crate::piece::{Piece, may_move};
 use call_log::{Errno, Got};
 use fd_tables::{Files, Target};
 use mem_files::{Node, Tree};
@@ -22,9 +22,6 @@ use std::alloc::{AllocError, Global};
 
 /// The most bytes that one call moves.
 const MOST_MOVED: u64 = 16_777_216;
-
-/// The most pieces of one call.
-pub(crate) const MOST_PIECES: u32 = 1024;
 
 /// read(fd, p, n).
 pub(crate) fn read(
@@ -55,7 +52,7 @@ pub(crate) fn readv(
     ensures fits { IfOk result (λ o. CanTake files.now.open_files o.then) }
     ensures ends { IfOk result (λ o. HasEnds files.now.open_files call.now.table o.then) }
 {
-    if call.args[2] > MOST_PIECES {
+    if !may_move(call.args[2]) {
         return Ok(Outcome::refusal(alloc, Errno::Einval));
     }
     let pieces = pieces(alloc, &call.sent, call.args[2])?;

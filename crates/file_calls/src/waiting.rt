@@ -12,7 +12,8 @@ ghost use Rattle.file_calls.specs.Calls.{MadeBy, WaitsOn};
 ghost use Rattle.file_calls.specs.Ends.{shown_end};
 
 use crate::call::Call;
-use crate::reading::{MOST_PIECES, word_in};
+use crate::piece::may_move;
+use crate::reading::word_in;
 use crate::writing::{behind_pieces, must_wait};
 use call_log::numbers;
 use fd_tables::{Files, PipeView, Target, Way};
@@ -50,12 +51,8 @@ pub fn wait_of(files: &Files, call: &Call) -> Option<u32>
     match call.number {
         numbers::READ => read_wait(files, call, count > 0),
         numbers::WRITE => write_wait(files, call, &call.sent),
-        numbers::READV if count <= MOST_PIECES => read_wait(
-            files,
-            call,
-            have_room(&call.sent, count),
-        ),
-        numbers::WRITEV if count <= MOST_PIECES => write_wait(
+        numbers::READV if may_move(count) => read_wait(files, call, have_room(&call.sent, count)),
+        numbers::WRITEV if may_move(count) => write_wait(
             files,
             call,
             behind_pieces(&call.sent, count),

@@ -12,13 +12,10 @@ ghost use Rattle.file_calls.specs.Answers.{Answers};
 ghost use Rattle.file_calls.specs.Calls.{MadeBy, IsRest, WaitsOn, with_all};
 
 use crate::call::Call;
-use crate::reading::MOST_PIECES;
+use crate::piece::may_move;
 use call_log::Errno;
-use fd_tables::{Files, PipeView, Target, View};
+use fd_tables::{Files, MOST_HELD, PipeView, Target, View};
 use mem_files::{FileFault, Tree};
-
-/// The most bytes that a pipe holds.
-const MOST_HELD: u32 = 65_536;
 
 /// A write of so many bytes to a pipe is whole, or waits.
 const MOST_WHOLE: usize = 4096;
@@ -34,7 +31,7 @@ pub(crate) fn writev(
     ensures spare { KeepsSpare files.old files.new }
 {
     let count = call.args[2];
-    if count > MOST_PIECES {
+    if !may_move(count) {
         return Err(FileFault::Errno(Errno::Einval));
     }
     write(tree, files, console, call, behind_pieces(&call.sent, count))

@@ -25,8 +25,8 @@ use Rattle.kept_parts.specs.declared.effect.Effect.{Effect}
 use Rattle.kept_parts.specs.declared.effect.Effect.TheVariants.{Answer, Yield, Break}
 use Rattle.call_bytes.specs.declared.unread.Unread.{Unread}
 use Rattle.call_bytes.specs.declared.unread.Unread.TheVariants.{Stray}
-use Rattle.kept_parts.specs.declared.reach.Reach.{Reach}
-use Rattle.kept_parts.specs.declared.reach.Reach.TheVariants.{Own, Whole}
+use Rattle.region_watch.specs.declared.mode.Mode.{Mode}
+use Rattle.region_watch.specs.declared.mode.Mode.TheVariants.{Halt, GoOn}
 use Rattle.kept_parts.specs.declared.served.Served.{Served}
 use Rattle.kept_parts.specs.declared.served.Served.TheVariants as result
 use Rattle.kept_parts.specs.Kept.{Kept}
@@ -72,16 +72,16 @@ module _ (headers : List (List ℕ)) (a : About) (x : After) (old new : Kept) (p
   unless_stray result.Ended T is = is
   unless_stray result.LogFull T is = is
 
-  pub in_reach : (reach : Reach) (r : Result Served AllocError) → ServesIn headers a x old new pid r → InReach reach headers a x old new pid r
-  in_reach Own (Ok s) serves = unless_stray s (GoesIn headers a x old new pid s) serves
-  in_reach Whole (Ok s) serves = serves
-  in_reach Own (Err error) serves = serves
-  in_reach Whole (Err error) serves = serves
+  pub in_reach : (mode : Mode) (r : Result Served AllocError) → ServesIn headers a x old new pid r → InReach mode headers a x old new pid r
+  in_reach Halt (Ok s) serves = unless_stray s (GoesIn headers a x old new pid s) serves
+  in_reach GoOn (Ok s) serves = serves
+  in_reach Halt (Err error) serves = serves
+  in_reach GoOn (Err error) serves = serves
 
 -- what is the same comes of it
-pub same_reach : (headers : List (List ℕ)) (a : About) (reach : Reach) (x y : After) → y ≡ x → (old new : Kept) (pid : ℕ) (r : Result Served AllocError) →
-    InReach reach headers a x old new pid r → InReach reach headers a y old new pid r
-same_reach headers a reach x y same old new pid r = subst (λ (z : After). InReach reach headers a z old new pid r) (sym same)
+pub same_reach : (headers : List (List ℕ)) (a : About) (mode : Mode) (x y : After) → y ≡ x → (old new : Kept) (pid : ℕ) (r : Result Served AllocError) →
+    InReach mode headers a x old new pid r → InReach mode headers a y old new pid r
+same_reach headers a mode x y same old new pid r = subst (λ (z : After). InReach mode headers a z old new pid r) (sym same)
 
 -- ---- those go on that wait
 
@@ -111,14 +111,14 @@ module _ (headers : List (List ℕ)) (a : About) (pid : ℕ) where
     settled_goes (no_room p) old result.LogFull goes was = absurd cc
     settled_goes nobody old s goes was = was
 
-    pub settled_reach : (reach : Reach) (x : After) (old : Kept) (s : Served) → went_by s ≡ true → InReach reach headers a x old mid pid (Ok s) → InReach reach headers a (settled_in x) old new pid (Ok s)
-    settled_reach Whole x old s goes was = settled_goes x old s goes was
-    settled_reach Own x old result.Replied goes was = settled_goes x old result.Replied goes was
-    settled_reach Own x old result.TurnEnds goes was = settled_goes x old result.TurnEnds goes was
-    settled_reach Own x old result.Waits goes was = settled_goes x old result.Waits goes was
-    settled_reach Own x old result.Ended goes was = settled_goes x old result.Ended goes was
-    settled_reach Own x old (result.Stray access) goes was = tt
-    settled_reach Own x old result.LogFull goes was = absurd cc
+    pub settled_reach : (mode : Mode) (x : After) (old : Kept) (s : Served) → went_by s ≡ true → InReach mode headers a x old mid pid (Ok s) → InReach mode headers a (settled_in x) old new pid (Ok s)
+    settled_reach GoOn x old s goes was = settled_goes x old s goes was
+    settled_reach Halt x old result.Replied goes was = settled_goes x old result.Replied goes was
+    settled_reach Halt x old result.TurnEnds goes was = settled_goes x old result.TurnEnds goes was
+    settled_reach Halt x old result.Waits goes was = settled_goes x old result.Waits goes was
+    settled_reach Halt x old result.Ended goes was = settled_goes x old result.Ended goes was
+    settled_reach Halt x old (result.Stray access) goes was = tt
+    settled_reach Halt x old result.LogFull goes was = absurd cc
 
     pub settled_dies : (x : After) → DiedIn headers a x mid pid → DiedIn headers a (settled_in x) new pid
     settled_dies (after p over) was = (awake_now p was.0, was.1, gone_now a pid mid new kept was.2)
@@ -145,14 +145,14 @@ module _ (headers : List (List ℕ)) (a : About) (pid : ℕ) where
   unsettled_goes (no_room p) old new s goes was = was
   unsettled_goes nobody old new s goes was = was
 
-  pub unsettled_reach : (reach : Reach) (x : After) (old new : Kept) (s : Served) → went_by s ≡ false → InReach reach headers a x old new pid (Ok s) → InReach reach headers a (settled_in x) old new pid (Ok s)
-  unsettled_reach Whole x old new s goes was = unsettled_goes x old new s goes was
-  unsettled_reach Own x old new result.Replied goes was = absurd cc
-  unsettled_reach Own x old new result.TurnEnds goes was = absurd cc
-  unsettled_reach Own x old new result.Waits goes was = absurd cc
-  unsettled_reach Own x old new result.Ended goes was = absurd cc
-  unsettled_reach Own x old new (result.Stray access) goes was = tt
-  unsettled_reach Own x old new result.LogFull goes was = unsettled_goes x old new result.LogFull goes was
+  pub unsettled_reach : (mode : Mode) (x : After) (old new : Kept) (s : Served) → went_by s ≡ false → InReach mode headers a x old new pid (Ok s) → InReach mode headers a (settled_in x) old new pid (Ok s)
+  unsettled_reach GoOn x old new s goes was = unsettled_goes x old new s goes was
+  unsettled_reach Halt x old new result.Replied goes was = absurd cc
+  unsettled_reach Halt x old new result.TurnEnds goes was = absurd cc
+  unsettled_reach Halt x old new result.Waits goes was = absurd cc
+  unsettled_reach Halt x old new result.Ended goes was = absurd cc
+  unsettled_reach Halt x old new (result.Stray access) goes was = tt
+  unsettled_reach Halt x old new result.LogFull goes was = unsettled_goes x old new result.LogFull goes was
 
 -- a reply of an effect gives no bytes
 effect_mute : (a : Ask) (f : Effect) (r : Row) → r ≡ replies (reply_of a f) → IsMute r
@@ -172,69 +172,69 @@ module _ (headers : List (List ℕ)) (a : About) (k : Kept) (e : Entry Task) (h 
   abbrev before : Physical
   before = physical_of headers a k
 
-  module _ (reach : Reach) (new : Kept) (r : Result Served AllocError) where
-    by_after : (x : After) → classed_in before ask ≡ x → InReach reach headers a x k new call.pid r → InReach reach headers a (classed_in before ask) k new call.pid r
-    by_after x same = same_reach headers a reach x (classed_in before ask) same k new call.pid r
+  module _ (mode : Mode) (new : Kept) (r : Result Served AllocError) where
+    by_after : (x : After) → classed_in before ask ≡ x → InReach mode headers a x k new call.pid r → InReach mode headers a (classed_in before ask) k new call.pid r
+    by_after x same = same_reach headers a mode x (classed_in before ask) same k new call.pid r
 
     -- one that gives no bytes
     pub mute_reach : IsRow call.number → IsMute (row ask) → new.mem ≡ k.mem → Serves a (answered (world_of a k) ask (row ask)) k new call.pid r →
-        InReach reach headers a (classed_in before ask) k new call.pid r
+        InReach mode headers a (classed_in before ask) k new call.pid r
     unfolding physical_of
     mute_reach goes mute same serves =
         by_after (carried before (physical k.mem) (answered (world_of a k) ask (row ask)))
         (class_row before ask (subst IsRow is.number goes) ∙ mute_carried before ask (row ask) mute)
-        (in_reach headers a _ k new call.pid reach r
+        (in_reach headers a _ k new call.pid mode r
         (plain_in headers a k new same call.pid _ r serves (answered_begins (world_of a k) ask (row ask)) (answered_never (world_of a k) ask (row ask) mute)))
 
     pub effect_reach : (f : Effect) → IsRow call.number → row ask ≡ replies (reply_of ask f) → new.mem ≡ k.mem →
-        Serves a (answered (world_of a k) ask (replies (reply_of ask f))) k new call.pid r → InReach reach headers a (classed_in before ask) k new call.pid r
+        Serves a (answered (world_of a k) ask (replies (reply_of ask f))) k new call.pid r → InReach mode headers a (classed_in before ask) k new call.pid r
     effect_reach f goes rows same serves =
         mute_reach goes (effect_mute ask f (row ask) rows) same (subst (λ (x : Row). Serves a (answered (world_of a k) ask x) k new call.pid r) (sym rows) serves)
 
-    pub row_reach : IsRow call.number → InReach reach headers a (answered_in before ask (row ask)) k new call.pid r → InReach reach headers a (classed_in before ask) k new call.pid r
+    pub row_reach : IsRow call.number → InReach mode headers a (answered_in before ask (row ask)) k new call.pid r → InReach mode headers a (classed_in before ask) k new call.pid r
     row_reach goes = by_after (answered_in before ask (row ask)) (class_row before ask (subst IsRow is.number goes))
 
     -- one that gives no bytes, and brings some
     pub carried_reach : IsRow call.number → IsMute (row ask) → ServesIn headers a (carried before (physical k.mem) (answered (world_of a k) ask (row ask))) k new call.pid r →
-        InReach reach headers a (classed_in before ask) k new call.pid r
+        InReach mode headers a (classed_in before ask) k new call.pid r
     unfolding physical_of
     carried_reach goes mute serves =
         by_after (carried before (physical k.mem) (answered (world_of a k) ask (row ask)))
         (class_row before ask (subst IsRow is.number goes) ∙ mute_carried before ask (row ask) mute)
-        (in_reach headers a _ k new call.pid reach r serves)
+        (in_reach headers a _ k new call.pid mode r serves)
 
-    pub waitid_reach : call.number ≡ 95 → InReach reach headers a (waitid_in before ask) k new call.pid r → InReach reach headers a (classed_in before ask) k new call.pid r
+    pub waitid_reach : call.number ≡ 95 → InReach mode headers a (waitid_in before ask) k new call.pid r → InReach mode headers a (classed_in before ask) k new call.pid r
     waitid_reach same = by_after (waitid_in before ask) (class_waitid before ask (sym is.number ∙ same))
 
-    pub exit_reach : is_exit call.number ≡ true → new.mem ≡ k.mem → Serves a (exited (world_of a k) ask) k new call.pid r → InReach reach headers a (classed_in before ask) k new call.pid r
+    pub exit_reach : is_exit call.number ≡ true → new.mem ≡ k.mem → Serves a (exited (world_of a k) ask) k new call.pid r → InReach mode headers a (classed_in before ask) k new call.pid r
     unfolding physical_of
     exit_reach exits same serves =
         by_after (carried before (physical k.mem) (exited (world_of a k) ask)) (class_exit before ask (ap is_exit (sym is.number) ∙ exits))
-        (in_reach headers a _ k new call.pid reach r
+        (in_reach headers a _ k new call.pid mode r
         (plain_in headers a k new same call.pid _ r serves (exited_begins (world_of a k) ask) (exited_never (world_of a k) ask)))
 
-    pub clone_reach : call.number ≡ 220 → new.mem ≡ k.mem → Serves a (cloned (world_of a k) ask) k new call.pid r → InReach reach headers a (classed_in before ask) k new call.pid r
+    pub clone_reach : call.number ≡ 220 → new.mem ≡ k.mem → Serves a (cloned (world_of a k) ask) k new call.pid r → InReach mode headers a (classed_in before ask) k new call.pid r
     unfolding physical_of
     clone_reach number same serves =
         by_after (carried before (physical k.mem) (cloned (world_of a k) ask)) (class_clone before ask (sym is.number ∙ number))
-        (in_reach headers a _ k new call.pid reach r
+        (in_reach headers a _ k new call.pid mode r
         (plain_in headers a k new same call.pid _ r serves (cloned_begins (world_of a k) ask) (cloned_never (world_of a k) ask)))
 
     pub exec_reach : call.number ≡ 221 → ServesIn headers a (carried before (physical k.mem) (exec (world_of a k) ask)) k new call.pid r →
-        InReach reach headers a (classed_in before ask) k new call.pid r
+        InReach mode headers a (classed_in before ask) k new call.pid r
     unfolding physical_of
     exec_reach number serves =
         by_after (carried before (physical k.mem) (exec (world_of a k) ask)) (class_exec before ask (sym is.number ∙ number))
-        (in_reach headers a _ k new call.pid reach r serves)
+        (in_reach headers a _ k new call.pid mode r serves)
 
   -- one that waits on a pipe
-  pub wait_reach : (reach : Reach) (new : Kept) (s : Served) (pipe : ℕ) → is_exit call.number ≡ false → WaitsOn (row ask) (Some pipe) → new.mem ≡ k.mem →
-      Answered a (waited (world_of a k) (process_of e) (OnPipe pipe)) k new call.pid s → InReach reach headers a (classed_in before ask) k new call.pid (Ok s)
+  pub wait_reach : (mode : Mode) (new : Kept) (s : Served) (pipe : ℕ) → is_exit call.number ≡ false → WaitsOn (row ask) (Some pipe) → new.mem ≡ k.mem →
+      Answered a (waited (world_of a k) (process_of e) (OnPipe pipe)) k new call.pid s → InReach mode headers a (classed_in before ask) k new call.pid (Ok s)
   unfolding physical_of
-  wait_reach reach new s pipe goes waits_so same serves =
-      by_after reach new (Ok s) (carried before (physical k.mem) (waited (world_of a k) (process_of e) (OnPipe pipe)))
+  wait_reach mode new s pipe goes waits_so same serves =
+      by_after mode new (Ok s) (carried before (physical k.mem) (waited (world_of a k) (process_of e) (OnPipe pipe)))
       (class_row before ask (wait_row ask pipe waits_so (ap is_exit (sym is.number) ∙ goes)) ∙ ap (answered_in before ask) (waits_is (row ask) pipe waits_so))
-      (in_reach headers a _ k new call.pid reach (Ok s)
+      (in_reach headers a _ k new call.pid mode (Ok s)
       (plain_goes headers a k new same call.pid _ s serves (waited_begins (world_of a k) (process_of e) (OnPipe pipe)) (waited_never (world_of a k) (process_of e) (OnPipe pipe))))
 
 -- ---- the whole call
@@ -264,38 +264,38 @@ module _ (headers : List (List ℕ)) (a : About) (k : Kept) (pid : ℕ) (e : Ent
   called_is call is = called_by (Ok call.sent.items) is
 
 -- a process that died ended
-died_goes : (headers : List (List ℕ)) (a : About) (x : After) (old new : Kept) (pid : ℕ) → DiedIn headers a x new pid → GoesIn headers a x old new pid result.Ended
+pub died_goes : (headers : List (List ℕ)) (a : About) (x : After) (old new : Kept) (pid : ℕ) → DiedIn headers a x new pid → GoesIn headers a x old new pid result.Ended
 died_goes headers a (after p over) old new pid was = (was.0, (was.1, was.2))
 died_goes headers a (no_room p) old new pid was = absurd was
 died_goes headers a nobody old new pid was = absurd was
 
 -- what is read within reach of a process
-abbrev pub MadeAs : Kept → ℕ → Reach → Result Call Unread → Type 0
-MadeAs k pid reach r = (e : Entry Task) → (h : Held) → LivesIn k pid e h → Made (only (readable reach (length k.regions) h) (physical k.mem)) e r
+abbrev pub MadeAs : Kept → ℕ → Mode → Result Call Unread → Type 0
+MadeAs k pid mode r = (e : Entry Task) → (h : Held) → LivesIn k pid e h → Made (only (readable mode (length k.regions) h) (physical k.mem)) e r
 
-pub own_made : (k : Kept) (pid : ℕ) (reach : Reach) → reach ≡ Own → (r : Result Call Unread) → MadeAs k pid reach r →
+pub own_made : (k : Kept) (pid : ℕ) (mode : Mode) → mode ≡ Halt → (r : Result Call Unread) → MadeAs k pid mode r →
     (e : Entry Task) → (h : Held) → LivesIn k pid e h → Made (private_bytes k.mem h) e r
 unfolding private_bytes
-own_made k pid reach own r made e h runs = subst (λ (x : Reach). Made (only (readable x (length k.regions) h) (physical k.mem)) e r) own (made e h runs)
+own_made k pid mode own r made e h runs = subst (λ (x : Mode). Made (only (readable x (length k.regions) h) (physical k.mem)) e r) own (made e h runs)
 
-module _ (headers : List (List ℕ)) (a : About) (k : Kept) (pid : ℕ) (regular : Regular k) (lives : Lives k.procs pid) (reach : Reach) where
+module _ (headers : List (List ℕ)) (a : About) (k : Kept) (pid : ℕ) (regular : Regular k) (lives : Lives k.procs pid) (mode : Mode) where
   -- what is read within reach is read of all of memory
-  pub call_goes : (call : Call) → call.pid ≡ pid → MadeAs k pid reach (Ok call) → (new : Kept) (r : Result Served AllocError) →
-      ((caller : Caller k call) → InReach reach headers a (settled_in (classed_in (physical_of headers a k) (asked_by a caller))) k new call.pid r) →
-      InReach reach headers a (called_in (physical_of headers a k) pid) k new pid r
+  pub call_goes : (call : Call) → call.pid ≡ pid → MadeAs k pid mode (Ok call) → (new : Kept) (r : Result Served AllocError) →
+      ((caller : Caller k call) → InReach mode headers a (settled_in (classed_in (physical_of headers a k) (asked_by a caller))) k new call.pid r) →
+      InReach mode headers a (called_in (physical_of headers a k) pid) k new pid r
   call_goes call same made new r goes =
       let there = runs_in k pid regular lives in
       let e : Entry Task = there.0 in
       let h : Held = there.1.0 in
       let runs : LivesIn k pid e h = there.1.1 in
       let at = made e h runs in
-      let reads = sent_sub (readable reach (length k.regions) h) (physical k.mem) (number_of e.value.regs) (args_of e.value.regs) call.sent.items at.1 in
-      same_reach headers a reach _ _ (called_is headers a k pid e h runs call reads) k new pid r
-      (subst (λ (n : ℕ). InReach reach headers a (settled_in (classed_in (physical_of headers a k) (ask_in a k e h call))) k new n r) same
+      let reads = sent_sub (readable mode (length k.regions) h) (physical k.mem) (number_of e.value.regs) (args_of e.value.regs) call.sent.items at.1 in
+      same_reach headers a mode _ _ (called_is headers a k pid e h runs call reads) k new pid r
+      (subst (λ (n : ℕ). InReach mode headers a (settled_in (classed_in (physical_of headers a k) (ask_in a k e h call))) k new n r) same
       (goes (record { entry = e; held = h; runs = subst (λ (n : ℕ). LivesIn k n e h) (sym same) runs; stands = at.0 })))
 
   -- a range outside memory
-  called_outside : reach ≡ Whole → (addr len : ℕ) → MadeAs k pid reach (Err (Stray addr len)) → called_in (physical_of headers a k) pid ≡ died_in (physical_of headers a k) pid outside
+  pub called_outside : mode ≡ GoOn → (addr len : ℕ) → MadeAs k pid mode (Err (Stray addr len)) → called_in (physical_of headers a k) pid ≡ died_in (physical_of headers a k) pid outside
   called_outside whole addr len made =
       let there = runs_in k pid regular lives in
       let e : Entry Task = there.0 in
@@ -303,10 +303,4 @@ module _ (headers : List (List ℕ)) (a : About) (k : Kept) (pid : ℕ) (regular
       let span : Span = record { addr = addr; len = len } in
       called_dies headers a k pid e h there.1.1 span
       (subst (λ (m : Bytes). sent (number_of e.value.regs) (args_of e.value.regs) m ≡ Err span) (all_pages (length k.regions) k.mem regular.memory)
-      (subst (λ (x : Reach). sent (number_of e.value.regs) (args_of e.value.regs) (only (readable x (length k.regions) h) (physical k.mem)) ≡ Err span) whole (made e h there.1.1)))
-
-  pub outside_ends : reach ≡ Whole → (addr len : ℕ) → MadeAs k pid reach (Err (Stray addr len)) → (new : Kept) → DiedIn headers a (died_in (physical_of headers a k) pid outside) new pid →
-      InReach reach headers a (called_in (physical_of headers a k) pid) k new pid (Ok result.Ended)
-  outside_ends whole addr len made new died =
-      in_reach headers a (called_in (physical_of headers a k) pid) k new pid reach (Ok result.Ended)
-      (subst (λ (x : After). GoesIn headers a x k new pid result.Ended) (sym (called_outside whole addr len made)) (died_goes headers a _ k new pid died))
+      (subst (λ (x : Mode). sent (number_of e.value.regs) (args_of e.value.regs) (only (readable x (length k.regions) h) (physical k.mem)) ≡ Err span) whole (made e h there.1.1)))

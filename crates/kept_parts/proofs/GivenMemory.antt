@@ -25,8 +25,8 @@ use Rattle.file_calls.specs.Calls.{after as after_files, got_of}
 use Rattle.memory_world.specs.Physical.{After, after, no_room, nobody, or_below, over, showing, bytes_in, is_free_at, laid_behind, carried, outside, killed, put_in, answered_in, has_stray}
 use Rattle.memory_world.proofs.InMemory.{trapped_begins}
 use Rattle.kept_parts.specs.declared.task.Task.{Task}
-use Rattle.kept_parts.specs.declared.reach.Reach.{Reach}
-use Rattle.kept_parts.specs.declared.reach.Reach.TheVariants.{Own, Whole}
+use Rattle.region_watch.specs.declared.mode.Mode.{Mode}
+use Rattle.region_watch.specs.declared.mode.Mode.TheVariants.{Halt, GoOn}
 use Rattle.kept_parts.specs.declared.served.Served.{Served}
 use Rattle.kept_parts.specs.declared.served.Served.TheVariants.{Replied, Ended, Stray, LogFull}
 use Rattle.kept_parts.specs.Kept.{Kept}
@@ -209,16 +209,16 @@ killed_by headers a k new stays pid e h runs signal died =
 -- ---- within reach
 
 module _ (headers : List (List ℕ)) (a : About) (o : After) (old new : Kept) (pid : ℕ) where
-  pub is_unchanged : (reach : Reach) (error : AllocError) → InReach reach headers a o old new pid (Err error) → new ≡ old
-  is_unchanged Own error same = same
-  is_unchanged Whole error same = same
+  pub is_unchanged : (mode : Mode) (error : AllocError) → InReach mode headers a o old new pid (Err error) → new ≡ old
+  is_unchanged Halt error same = same
+  is_unchanged GoOn error same = same
 
   -- what comes of an access beyond reach
-  pub beyond : (reach : Reach) (access : Access) (result : Result Served AllocError) → (reach ≡ Own → (result ≡ Ok (Stray access)) × (new ≡ old)) →
-      (reach ≡ Whole → ServesIn headers a o old new pid result) → InReach reach headers a o old new pid result
-  beyond Own access result strayed dies = subst (InReach Own headers a o old new pid) (sym (strayed refl).0) tt
-  beyond Whole access (Ok s) strayed dies = dies refl
-  beyond Whole access (Err error) strayed dies = dies refl
+  pub beyond : (mode : Mode) (access : Access) (result : Result Served AllocError) → (mode ≡ Halt → (result ≡ Ok (Stray access)) × (new ≡ old)) →
+      (mode ≡ GoOn → ServesIn headers a o old new pid result) → InReach mode headers a o old new pid result
+  beyond Halt access result strayed dies = subst (InReach Halt headers a o old new pid) (sym (strayed refl).0) tt
+  beyond GoOn access (Ok s) strayed dies = dies refl
+  beyond GoOn access (Err error) strayed dies = dies refl
 
 -- ---- what a process may write lies in memory
 
@@ -247,9 +247,9 @@ module _ (k : Kept) (regular : Regular k) (i : ℕ) (h : Held) (there : slice_ge
   own_inside = stray_wider (writable_in h.maps) (in_pages (length k.regions)) writable_inside
 
   -- and of either reach
-  pub reach_inside : (reach : Reach) (gots : List GotRange) → stray_range (writable reach (length k.regions) h) gots ≡ None → stray_range (in_pages (length k.regions)) gots ≡ None
-  reach_inside Own gots fits = own_inside gots fits
-  reach_inside Whole gots fits = fits
+  pub reach_inside : (mode : Mode) (gots : List GotRange) → stray_range (writable mode (length k.regions) h) gots ≡ None → stray_range (in_pages (length k.regions)) gots ≡ None
+  reach_inside Halt gots fits = own_inside gots fits
+  reach_inside GoOn gots fits = fits
 
   -- ---- copies hold their file where a stray access was noted, or what was given is the caller's own
 
@@ -272,13 +272,13 @@ module _ (k : Kept) (regular : Regular k) (i : ℕ) (h : Held) (there : slice_ge
 
 module _ (o : Output) (xs : List Got) (seen : xs ≡ o.got.items) where
   -- the first range beyond reach
-  module _ (reach : Reach) (k : Kept) (pid : ℕ) (found : Option Access)
-      (looks : (e : Entry Task) → (h : Held) → LivesIn k pid e h → found ≡ option_map (access_at e.value.regs.pc) (stray_range (writable reach (length k.regions) h) (map got_value xs)))
+  module _ (mode : Mode) (k : Kept) (pid : ℕ) (found : Option Access)
+      (looks : (e : Entry Task) → (h : Held) → LivesIn k pid e h → found ≡ option_map (access_at e.value.regs.pc) (stray_range (writable mode (length k.regions) h) (map got_value xs)))
       (e : Entry Task) (h : Held) (runs : LivesIn k pid e h) where
-    pub found_by : found ≡ option_map (access_at e.value.regs.pc) (stray_range (writable reach (length k.regions) h) (got_of o))
-    found_by = looks e h runs ∙ ap (λ (ys : List Got). option_map (access_at e.value.regs.pc) (stray_range (writable reach (length k.regions) h) (map got_value ys))) seen
+    pub found_by : found ≡ option_map (access_at e.value.regs.pc) (stray_range (writable mode (length k.regions) h) (got_of o))
+    found_by = looks e h runs ∙ ap (λ (ys : List Got). option_map (access_at e.value.regs.pc) (stray_range (writable mode (length k.regions) h) (map got_value ys))) seen
 
-    pub none_beyond : found ≡ None → stray_range (writable reach (length k.regions) h) (got_of o) ≡ None
+    pub none_beyond : found ≡ None → stray_range (writable mode (length k.regions) h) (got_of o) ≡ None
     none_beyond none = none_strays e.value.regs.pc _ _ found_by none
 
   -- whether the log has room
@@ -288,7 +288,7 @@ module _ (o : Output) (xs : List Got) (seen : xs ≡ o.got.items) where
       room_is inside k same (weight_of bytes (got_of o)) found b (asked ∙ ap (λ (ys : List Got). room_beside inside (weight_of bytes (map got_value ys))) seen) is
 
 -- where all of memory is in reach a stray access was noted, else what is in reach is the caller's own
-pub fits_unstrayed : (reach : Reach) (notes : List Note) (pages : ℕ) (h : Held) (gots : List GotRange) → (reach ≡ Whole → has_stray notes ≡ true) →
-    stray_range (writable reach pages h) gots ≡ None → has_stray notes ≡ false → stray_range (writable_in h.maps) gots ≡ None
-fits_unstrayed Own notes pages h gots strayed fits unstrayed = fits
-fits_unstrayed Whole notes pages h gots strayed fits unstrayed = absurd (let e = sym unstrayed ∙ strayed refl in cc)
+pub fits_unstrayed : (mode : Mode) (notes : List Note) (pages : ℕ) (h : Held) (gots : List GotRange) → (mode ≡ GoOn → has_stray notes ≡ true) →
+    stray_range (writable mode pages h) gots ≡ None → has_stray notes ≡ false → stray_range (writable_in h.maps) gots ≡ None
+fits_unstrayed Halt notes pages h gots strayed fits unstrayed = fits
+fits_unstrayed GoOn notes pages h gots strayed fits unstrayed = absurd (let e = sym unstrayed ∙ strayed refl in cc)

@@ -11,8 +11,8 @@ use Rattle.mmap_rules.specs.Space.{own_in, writable_in}
 use Rattle.region_watch.specs.Private.{only, physical, own_bytes}
 use Rattle.region_watch.proofs.Accesses.{all_pages}
 use Rattle.mmap_rules.specs.Held.{Held}
-use Rattle.kept_parts.specs.declared.reach.Reach.{Reach}
-use Rattle.kept_parts.specs.declared.reach.Reach.TheVariants.{Own, Whole}
+use Rattle.region_watch.specs.declared.mode.Mode.{Mode}
+use Rattle.region_watch.specs.declared.mode.Mode.TheVariants.{Halt, GoOn}
 use Rattle.kept_parts.specs.Kept.{Kept}
 use Rattle.kept_parts.specs.Reach.{readable, whole_page, whole_table, Reaches}
 use Rattle.kept_parts.specs.Regular.{Regular}
@@ -63,20 +63,20 @@ whole_own pages mem paged = ap (λ (test : ℕ → Bool). only test (physical me
 -- ---- within reach
 
 -- the bytes that a table of the reach owns
-pub reached_bytes : (reach : Reach) (pages : ℕ) (h : Held) (table : List PageOwner) (mem : List ℕ) → Reaches reach pages h table → own_bytes table mem ≡ only (readable reach pages h) (physical mem)
-reached_bytes reach pages h table mem r = ap (λ (test : ℕ → Bool). only test (physical mem)) r.reads
+pub reached_bytes : (mode : Mode) (pages : ℕ) (h : Held) (table : List PageOwner) (mem : List ℕ) → Reaches mode pages h table → own_bytes table mem ≡ only (readable mode pages h) (physical mem)
+reached_bytes mode pages h table mem r = ap (λ (test : ℕ → Bool). only test (physical mem)) r.reads
 
 -- and as many pages as memory has
-pub reached_pages : (reach : Reach) (k : Kept) (h : Held) (table : List PageOwner) → Regular k → Reaches reach (length k.regions) h table → length k.mem ≡ 4096 * length table
-reached_pages reach k h table regular r = regular.memory ∙ ap (λ (n : ℕ). 4096 * n) (sym r.long)
+pub reached_pages : (mode : Mode) (k : Kept) (h : Held) (table : List PageOwner) → Regular k → Reaches mode (length k.regions) h table → length k.mem ≡ 4096 * length table
+reached_pages mode k h table regular r = regular.memory ∙ ap (λ (n : ℕ). 4096 * n) (sym r.long)
 
 -- by the table of its space
 pub own_reaches : (k : Kept) → Regular k → (number : ℕ) (h : Held) (table : List PageOwner) → slice_get k.spaces number ≡ Some (Some h)
-    → owns table false ≡ own_in h.maps → owns table true ≡ writable_in h.maps → length table ≡ h.pages → Reaches Own (length k.regions) h table
+    → owns table false ≡ own_in h.maps → owns table true ≡ writable_in h.maps → length table ≡ h.pages → Reaches Halt (length k.regions) h table
 own_reaches k regular number h table there reads writes long = record { reads = reads; writes = writes; long = long ∙ regular.pages number h there }
 
 -- and by the one that owns all of memory
-pub whole_reaches : (pages : ℕ) (h : Held) (table : List PageOwner) → table ≡ whole_table pages → Reaches Whole pages h table
+pub whole_reaches : (pages : ℕ) (h : Held) (table : List PageOwner) → table ≡ whole_table pages → Reaches GoOn pages h table
 whole_reaches pages h table is = record {
   reads = ap (λ (t : List PageOwner). owns t false) is ∙ owns_whole pages false;
   writes = ap (λ (t : List PageOwner). owns t true) is ∙ owns_whole pages true;

@@ -10,8 +10,8 @@ use Rattle.byte_words.specs.declared.access.Access.{Access}
 use Rattle.call_log.specs.Notes.{stray_note}
 use Rattle.machine_world.specs.Event.{Outcome, called, stray_in}
 use Rattle.memory_world.specs.Physical.{Physical, After, after, no_room, nobody, carried, called_in, has_stray, with_stray, first_memory}
-use Rattle.kept_parts.specs.declared.reach.Reach.{Reach}
-use Rattle.kept_parts.specs.declared.reach.Reach.TheVariants.{Own, Whole}
+use Rattle.region_watch.specs.declared.mode.Mode.{Mode}
+use Rattle.region_watch.specs.declared.mode.Mode.TheVariants.{Halt, GoOn}
 use Rattle.kept_parts.specs.declared.served.Served.{Served}
 use Rattle.kept_parts.specs.declared.served.Served.TheVariants as served
 use Rattle.kept_parts.specs.Kept.{Kept}
@@ -65,10 +65,10 @@ UnlessStray served.Waits T = T
 UnlessStray served.Ended T = T
 UnlessStray served.LogFull T = T
 
-abbrev pub InReach : Reach → List (List ℕ) → About → After → Kept → Kept → ℕ → Result Served AllocError → Type 0
-InReach Own headers a outcome old new pid (Ok s) = UnlessStray s (GoesIn headers a outcome old new pid s)
-InReach Whole headers a outcome old new pid (Ok s) = GoesIn headers a outcome old new pid s
-InReach reach headers a outcome old new pid (Err error) = new ≡ old
+abbrev pub InReach : Mode → List (List ℕ) → About → After → Kept → Kept → ℕ → Result Served AllocError → Type 0
+InReach Halt headers a outcome old new pid (Ok s) = UnlessStray s (GoesIn headers a outcome old new pid s)
+InReach GoOn headers a outcome old new pid (Ok s) = GoesIn headers a outcome old new pid s
+InReach mode headers a outcome old new pid (Err error) = new ≡ old
 
 -- a process died in the one memory: it is gone, and the turn is over
 abbrev pub DiedIn : List (List ℕ) → About → After → Kept → ℕ → Type 0

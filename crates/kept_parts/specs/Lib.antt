@@ -14,6 +14,7 @@
 -- Calls    a system call by its parts, and what is kept after it
 -- MapsIn   what mmap2 and munmap leave of the spaces
 -- Brings   the bytes of a mapping that are recorded
+-- Leaves   what a call that maps pages, and one that gives bytes, leaves of what is kept
 -- Reach    what a system call may read and write: its process's own bytes, or all of memory
 -- InMemory  the one memory that the parts stand for, and what a call and a signal leave of it
 -- FreeRuns  the free runs that the regions leave
@@ -35,6 +36,7 @@ pub mod Calls
 pub mod Refusals
 pub mod MapsIn
 pub mod Brings
+pub mod Leaves
 pub mod Reach
 pub mod InMemory
 pub mod FreeRuns

@@ -16,10 +16,10 @@ ghost use Rattle.kept_parts.specs.Serves.{Dies};
 ghost use Rattle.kept_parts.specs.Gone.{gone, without_space};
 ghost use Rattle.kept_parts.specs.Calls.{LivesIn, Exits};
 
-use crate::keep::keep;
+use crate::keep::{keep, note_call};
 use crate::kept::KeptParts;
 use crate::task::Task;
-use call_log::{Entry, How, Note};
+use call_log::{How, Note};
 use file_calls::Call;
 use mmap_rules::Space;
 use std::alloc::AllocError;
@@ -74,25 +74,9 @@ impl KeptParts {
     {
         self.log.reserve(2)?;
         let got = Vec::new(*self.console.allocator());
-        let Call {
-            pid,
-            number,
-            args,
-            sent,
-            ..
-        } = call;
-        let how = How::Exit((args[0] % 256) as u8);
-        keep(
-            &mut self.log,
-            Note::Call(Entry {
-                pid,
-                call: number,
-                args,
-                sent,
-                reply: 0,
-                got,
-            }),
-        );
+        let pid = call.pid;
+        let how = How::Exit((call.args[0] % 256) as u8);
+        note_call(&mut self.log, call, 0, got);
         keep(&mut self.log, Note::End { pid, how });
         self.recording.pass(self.procs.get(pid).space, 1);
         self.depart(pid, how);

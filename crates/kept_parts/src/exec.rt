@@ -21,13 +21,13 @@ ghost use Rattle.kept_parts.specs.Serves.{Serves};
 ghost use Rattle.kept_parts.specs.Calls.{Caller, asked_by, noted_call};
 
 use crate::effect::Effect;
-use crate::keep::{keep, or_unreserve};
+use crate::keep::{keep, note_call, or_unreserve};
 use crate::kept::KeptParts;
 use crate::served::Served;
 use crate::task::Task;
 use bflt_format::Flat;
 use call_bytes::ProgramStrings;
-use call_log::{Entry, Errno, Got, Log, Note};
+use call_log::{Errno, Got, Log, Note};
 use file_calls::Call;
 use flat_loader::{LoadRefusal, load};
 use page_runs::{Chooser, Run};
@@ -77,24 +77,8 @@ fn note_exec(log: &mut Log, call: Call, got: Vec<Got>, index: u32, base: u32, pa
     ensures notes { log.new.notes ≡ load_note (record { pid = call.pid; program = index; base = base; pages = pages }) ∷ noted_call call 0 [] ∷ log.old.notes }
     ensures spare { log.new.spare ≡ log.old.spare - 2 }
 {
-    let Call {
-        pid,
-        number,
-        args,
-        sent,
-        ..
-    } = call;
-    keep(
-        log,
-        Note::Call(Entry {
-            pid,
-            call: number,
-            args,
-            sent,
-            reply: 0,
-            got,
-        }),
-    );
+    let pid = call.pid;
+    note_call(log, call, 0, got);
     keep(
         log,
         Note::Load {

@@ -25,7 +25,7 @@ mod wake;
 pub use effect::Effect;
 pub use kept::KeptParts;
 pub use laws::free_runs_law;
-pub use reach::{Reach, first_stray};
+pub use reach::first_stray;
 pub use served::Served;
 pub use start::StartRefusal;
 pub use task::Task;

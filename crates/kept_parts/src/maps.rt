@@ -7,21 +7,20 @@ ghost use Rattle.page_runs.specs.declared.place.Kind.{Kind};
 ghost use Rattle.mem_files.specs.Inodes.{bytes_of};
 ghost use Rattle.mmap_rules.specs.Held.{Held};
 ghost use Rattle.mmap_rules.specs.Want.{wanted, AsksPages};
-ghost use Rattle.mmap_rules.specs.Copies.{IsKnown, wanted_bytes};
-ghost use Rattle.mmap_rules.specs.MapState.{MapState, NameRegions, AreFew, file_in};
+ghost use Rattle.mmap_rules.specs.Copies.{wanted_bytes};
+ghost use Rattle.mmap_rules.specs.MapState.{MapState, NameRegions, file_in};
 ghost use Rattle.mmap_rules.specs.MapState.{mapped as mapped_in};
 ghost use Rattle.vfork_exec.specs.Procs.{Lives};
 ghost use Rattle.mmap_rules.specs.Mappings.{hit, file_pages};
 ghost use Rattle.machine_world.specs.MapCalls.{mapped, unmaps};
 ghost use Rattle.machine_world.specs.Recordings.{is_recorded, with_brought};
 ghost use Rattle.kept_parts.specs.Regular.{HasSpace};
-ghost use Rattle.machine_world.specs.Event.{answered};
-ghost use Rattle.kept_parts.specs.Copies.{HoldsFiles, StillHolds};
-ghost use Rattle.kept_parts.specs.InMemory.{ChangesIn};
+ghost use Rattle.kept_parts.specs.Copies.{HoldsFiles};
 ghost use Rattle.kept_parts.specs.Stands.{About, world_of};
 ghost use Rattle.kept_parts.specs.Calls.{Caller, RoomFor, asked_by, ChangesParts};
 ghost use Rattle.kept_parts.specs.Recorded.{room_beside};
-ghost use Rattle.kept_parts.specs.MapsIn.{MapsIn, UnmapsIn, IsAddress, IsAsked, is_file, status_of};
+ghost use Rattle.kept_parts.specs.Leaves.{MapLeaves};
+ghost use Rattle.kept_parts.specs.MapsIn.{CanMap, MapsIn, UnmapsIn, IsAddress, IsWanted, is_file, status_of};
 
 use crate::keep::or_unreserve;
 use crate::kept::KeptParts;
@@ -29,7 +28,7 @@ use crate::reply::finish;
 use call_log::Errno;
 use file_calls::Call;
 use mem_files::Tree;
-use mmap_rules::{MapFault, Space, Want, fits};
+use mmap_rules::{MapFault, Space, Want, fits, page_bytes};
 use nommu_regions::Regions;
 use page_runs::{Chooser, Run};
 use phys_mem::{PAGE, PhysMem};
@@ -48,10 +47,7 @@ fn map_in<F: Fn(&[Run], u32) -> Option<usize>>(
 ) -> Result<u32, MapFault>
     requires chooser { IsChooser F.pre F.post chooser.now }
     requires home { HasSpace spaces.old number }
-    requires pages { (h : Held) → slice_get spaces.old number ≡ Some (Some h) → h.pages ≡ length regions.old.regions }
-    requires memory { length mem.old ≡ 4096 * length regions.old.regions }
-    requires names { (h : Held) → slice_get spaces.old number ≡ Some (Some h) → NameRegions regions.old.regions h.maps }
-    requires few { AreFew regions.old.regions }
+    requires fits { CanMap number spaces.old regions.old.regions mem.old }
     requires want { AsksPages want }
     ensures ids { regions.new.starts ≡ regions.old.starts }
     ensures maps { (h : Held) → slice_get spaces.old number ≡ Some (Some h) →
@@ -87,25 +83,14 @@ fn unmap_in(
     }
 }
 
-/// Pages of a file, from its page `first` on, as far as it goes.
-fn front_of(bytes: &[u8], first: u32, pages: u32) -> &[u8]
-    ensures { result.now ≡ take (4096 * pages) (drop (4096 * first) bytes.now) }
-{
-    let page = u64::from(PAGE);
-    let from = (page * u64::from(first)).min(bytes.len() as u64) as usize;
-    let left = &bytes[from..];
-    let count = (page * u64::from(pages)).min(left.len() as u64) as usize;
-    &left[..count]
-}
-
-/// The same with zeros past its end.
+/// Pages of a file, from its page `first` on, with zeros past its end.
 fn file_pages(alloc: Global, bytes: &[u8], first: u32, pages: u32) -> Result<Vec<u8>, AllocError>
     ensures bytes { IfOk result (λ made. made.items ≡ file_pages bytes.now first pages) }
     ensures few { IfOk result (λ made. length made.items < 2 ^ 44) }
 {
     let size = (u64::from(PAGE) * u64::from(pages)) as usize;
     let mut made = Vec::with_capacity(alloc, size)?;
-    made.extend_from_slice(front_of(bytes, first, pages))?;
+    made.extend_from_slice(page_bytes(bytes, first, pages))?;
     made.resize(size, 0)?;
     Ok(made)
 }
@@ -188,14 +173,8 @@ impl KeptParts {
         requires room { room_beside self.old (length call.sent.items) ≡ true }
         requires brings { (a : About) → a.kind ≡ kind_of chooser.now → (c : Caller self.old call) →
             RoomFor (world_of a self.old) (asked_by a c) (mapped (asked_by a c) want) }
-        requires known { IsKnown self.old.tree want }
-        requires pages { AsksPages want }
-        requires asked { IsAsked call want }
-        ensures changes { (a : About) → a.kind ≡ kind_of chooser.now → StillHolds self.old → (c : Caller self.old call) →
-            ChangesParts a self.old c.entry c.held call (mapped (asked_by a c) want) self.new result }
-        ensures memory { (headers : List (List ℕ)) → (a : About) → a.kind ≡ kind_of chooser.now → (c : Caller self.old call) →
-            ChangesIn headers a (answered (world_of a self.old) (asked_by a c) (mapped (asked_by a c) want)) self.old self.new result }
-        ensures holds { HoldsFiles self.old → HoldsFiles self.new }
+        requires wanted { IsWanted self.old.tree call want }
+        ensures leaves { MapLeaves (kind_of chooser.now) call want self.old self.new result }
         ensures lives { Lives self.new.procs call.pid }
     {
         self.log.reserve(1)?;

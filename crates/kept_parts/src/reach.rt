@@ -12,17 +12,9 @@ use crate::home::home;
 use crate::kept::KeptParts;
 use call_log::Note;
 use mmap_rules::{Owners, PageOwner};
+use region_watch::Mode;
 use rv32im_step::Access;
 use std::alloc::{AllocError, Global};
-
-/// Which bytes the instructions and the system calls of a process may read and write.
-#[derive(Clone, Copy, PartialEq, Eq)]
-pub enum Reach {
-    /// Those that its space owns: a run up to its first stray access.
-    Own,
-    /// All of memory: a run that goes on behind it.
-    Whole,
-}
 
 /// The table that owns each byte of a memory of so many pages.
 pub(crate) fn whole_table(alloc: Global, pages: u32) -> Result<Owners, AllocError>
@@ -38,14 +30,15 @@ pub(crate) fn whole_table(alloc: Global, pages: u32) -> Result<Owners, AllocErro
 }
 
 impl KeptParts {
-    /// The table of the bytes that are reached from the space of a number, which lives.
-    pub fn table_of(&self, number: u32, reach: Reach) -> &Owners
+    /// The table of the bytes that the accesses of an event may reach from the space of a number, which lives, where they are watched in
+    /// this mode: its own, or all of memory.
+    pub fn table_of(&self, number: u32, mode: Mode) -> &Owners
         requires { HasSpace self.now.spaces number }
-        ensures { (h : Held) → slice_get self.now.spaces number ≡ Some (Some h) → Reaches reach (length self.now.regions) h result.now }
+        ensures { (h : Held) → slice_get self.now.spaces number ≡ Some (Some h) → Reaches mode (length self.now.regions) h result.now }
     {
-        match reach {
-            Reach::Own => home(&self.spaces, number).owners(),
-            Reach::Whole => &self.whole,
+        match mode {
+            Mode::Halt => home(&self.spaces, number).owners(),
+            Mode::GoOn => &self.whole,
         }
     }
 }

@@ -1,35 +1,31 @@
 //! The reply of a system call after which its process lives.
 
-ghost use Rattle.std.specs.Prelude.{◌≡◌, ◌==◌, ◌-◌, ◌≤◌, ◌∷◌, All, None, Some, false, true, length, map, slice_get, slice_set};
+ghost use Rattle.std.specs.Prelude.{◌≡◌, ◌==◌, ◌-◌, ◌≤◌, ◌∷◌, Some, false, true, length, map, slice_get, slice_set};
 ghost use Rattle.call_log.specs.Notes.{has_room, weight_of};
 ghost use Rattle.call_log.specs.Numbers as numbers;
 ghost use Rattle.call_log.specs.Values.{got_value};
 ghost use Rattle.mmap_rules.specs.Held.{Held, next_brk};
-ghost use Rattle.mmap_rules.specs.Space.{writable_in};
 ghost use Rattle.vfork_exec.specs.declared.entry.Entry.{Entry as Listed};
 ghost use Rattle.vfork_exec.specs.Procs.{Lives, value_at, with_value_at};
-ghost use Rattle.memory_world.specs.Physical.{has_stray};
 ghost use Rattle.machine_world.specs.Rows.{row};
 ghost use Rattle.machine_world.specs.Event.{replied};
 ghost use Rattle.file_calls.specs.Calls.{IsChange, DoesNotWait, got_of};
-ghost use Rattle.file_calls.specs.Outcomes.{CanTake, HasEnds};
 ghost use Rattle.kept_parts.specs.declared.task.Task.{Task};
 ghost use Rattle.kept_parts.specs.Copies.{HoldsFiles};
+ghost use Rattle.kept_parts.specs.Leaves.{CanGive, GivesWithin, GiveLeaves};
 ghost use Rattle.kept_parts.specs.Regular.{HasSpace};
 ghost use Rattle.kept_parts.specs.Stands.{About};
 ghost use Rattle.kept_parts.specs.Recorded.{room_beside};
-ghost use Rattle.call_bytes.specs.Puts.{stray_range, IsRange};
-ghost use Rattle.region_watch.specs.Private.{in_pages};
-ghost use Rattle.kept_parts.specs.Calls.{LivesIn, Caller, asked_by, maps_by, value_of, brk_of, noted_call, RepliesBy, ChangesParts, Gives, GivesIn};
+ghost use Rattle.kept_parts.specs.Calls.{LivesIn, Caller, asked_by, maps_by, value_of, brk_of, noted_call, RepliesBy, ChangesParts};
 
 use crate::effect::Effect;
 use crate::follow::follow;
 use crate::home::home;
-use crate::keep::{keep, or_unreserve};
+use crate::keep::{note_call, or_unreserve};
 use crate::kept::KeptParts;
 use crate::task::Task;
 use call_bytes::put;
-use call_log::{Entry, Got, Log, Note};
+use call_log::{Got, Log};
 use file_calls::{Call, Outcome};
 use mmap_rules::Space;
 use rv32im_step::Regs;
@@ -81,24 +77,7 @@ pub(crate) fn finish(procs: &mut Procs<Task>, log: &mut Log, call: Call, value: 
 {
     let task = procs.get_mut(call.pid);
     set_reply(&mut task.regs, value);
-    let Call {
-        pid,
-        number,
-        args,
-        sent,
-        ..
-    } = call;
-    keep(
-        log,
-        Note::Call(Entry {
-            pid,
-            call: number,
-            args,
-            sent,
-            reply: value,
-            got,
-        }),
-    );
+    note_call(log, call, value, got);
 }
 
 impl KeptParts {
@@ -144,15 +123,9 @@ impl KeptParts {
         requires lives { Lives self.old.procs call.pid }
         requires room { room_beside self.old (weight_of call.sent.items (got_of outcome)) ≡ true }
         requires plain { (call.number == numbers.mmap2) ≡ false }
-        requires fits { CanTake self.old.files outcome.then }
-        requires ends { HasEnds self.old.files call.table outcome.then }
-        requires ranges { All IsRange (got_of outcome) }
-        requires inside { stray_range (in_pages (length self.old.regions)) (got_of outcome) ≡ None }
-        requires kept { has_stray self.old.notes ≡ false → (e : Listed Task) → (h : Held) → LivesIn self.old call.pid e h → stray_range (writable_in h.maps) (got_of outcome) ≡ None }
-        ensures gives { (a : About) → (c : Caller self.old call) → stray_range (writable_in c.held.maps) (got_of outcome) ≡ None →
-            Gives a self.old c.entry c.held call outcome self.new result }
-        ensures memory { (a : About) → (c : Caller self.old call) → GivesIn a self.old c.entry c.held call outcome self.new result }
-        ensures holds { (e : Listed Task) → (h : Held) → LivesIn self.old call.pid e h → stray_range (writable_in h.maps) (got_of outcome) ≡ None → HoldsFiles self.old → HoldsFiles self.new }
+        requires can { CanGive self.old.files call.table outcome }
+        requires within { GivesWithin self.old call.pid (got_of outcome) }
+        ensures leaves { GiveLeaves call outcome self.old self.new result }
         ensures lives { Lives self.new.procs call.pid }
     {
         self.log.reserve(1)?;

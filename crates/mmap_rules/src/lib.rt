@@ -18,7 +18,7 @@ mod want;
 
 pub use map_fault::MapFault;
 pub use mapping::{Mapping, Range};
-pub use maps::fits;
+pub use maps::{fits, page_bytes};
 pub use owners::Owners;
 pub use page_owner::PageOwner;
 pub use space::{Space, SpaceRoom};

@@ -120,7 +120,7 @@ fn file_source(write: bool, file: u32, change: u64, first: u32) -> Source
 }
 
 /// The `pages` pages of a file from its page `first` on, as far as it goes.
-fn page_bytes(bytes: &[u8], first: u32, pages: u32) -> &[u8]
+pub fn page_bytes(bytes: &[u8], first: u32, pages: u32) -> &[u8]
     ensures { result.now ≡ take (4096 * pages) (drop (4096 * first) bytes.now) }
 {
     let page = u64::from(PAGE);

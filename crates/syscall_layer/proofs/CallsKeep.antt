@@ -3,7 +3,6 @@ use Rattle.std.proofs.Common.{◌≡◌, ℕ, Bool, true, false, List, [], Optio
 use Rattle.std.specs.Prelude.{OnErr, ⊤}
 use Rattle.std.specs.declared.alloc.AllocError.{AllocError}
 use Rattle.bflt_format.specs.Values.{Values}
-use Rattle.region_watch.specs.declared.mode.Mode.{Mode}
 use Rattle.syscall_layer.specs.Parts.{RunParts}
 use Rattle.byte_words.specs.declared.access.Access.{Access}
 use Rattle.rv32im_step.specs.Meaning.{call, trap}
@@ -21,8 +20,9 @@ use Rattle.memory_world.specs.After.{AfterHas}
 use Rattle.memory_world.proofs.ByEventsIn.{Steady, by_effect_in}
 use Rattle.kept_parts.specs.declared.served.Served.{Served}
 use Rattle.kept_parts.specs.declared.served.Served.TheVariants as served
-use Rattle.kept_parts.specs.declared.reach.Reach.{Reach}
-use Rattle.kept_parts.specs.declared.reach.Reach.TheVariants.{Own, Whole}
+use Rattle.region_watch.specs.declared.mode.Mode.{Mode}
+use Rattle.region_watch.specs.declared.mode.Mode.TheVariants.{Halt, GoOn}
+use Rattle.syscall_layer.specs.Answers.{KeepsMarks}
 use Rattle.kept_parts.specs.Kept.{Kept}
 use Rattle.kept_parts.specs.Stands.{About, world_of}
 use Rattle.kept_parts.specs.Serves.{Answered, Serves, Died, Dies}
@@ -165,27 +165,23 @@ module _ (p : Physical) where
 
 -- ---- of the parts
 
-pub record Remains (old new : Kept) : Type 0 where
-  pub notes : has_stray new.notes ≡ has_stray old.notes
-  pub marks : old.files.changed ≡ [] → new.files.changed ≡ []
-
-pub remains_same : (old new : Kept) → new ≡ old → Remains old new
+pub remains_same : (old new : Kept) → new ≡ old → KeepsMarks old new
 remains_same old new same = record { notes = ap (λ (k : Kept). has_stray k.notes) same; marks = λ none. ap (λ (k : Kept). k.files.changed) same ∙ none }
 
 module _ (headers : List (List ℕ)) (a : About) (old new : Kept) (pid : ℕ) where
   abbrev HasSame : World → Type 0
   HasSame = Same (has_stray old.notes)
 
-  by_world : (b : About) (now : World) → now ≡ world_of b new → HasSame now → Unmarked now → Remains old new
+  by_world : (b : About) (now : World) → now ≡ world_of b new → HasSame now → Unmarked now → KeepsMarks old new
   unfolding world_of
   by_world b now is h none = record { notes = subst HasSame is h; marks = λ was. subst Unmarked is none }
 
-  by_memory : (b : About) (now : Physical) → now ≡ physical_of headers b new → HasSame now.world → Unmarked now.world → Remains old new
+  by_memory : (b : About) (now : Physical) → now ≡ physical_of headers b new → HasSame now.world → Unmarked now.world → KeepsMarks old new
   unfolding physical_of world_of
   by_memory b now is h none =
       record { notes = subst (λ (p : Physical). HasSame p.world) is h; marks = λ was. subst (λ (p : Physical). Unmarked p.world) is none }
 
-  answered_remains : (o : Outcome) → Keeps HasSame o → Keeps Unmarked o → (s : Served) → Answered a o old new pid s → Remains old new
+  answered_remains : (o : Outcome) → Keeps HasSame o → Keeps Unmarked o → (s : Served) → Answered a o old new pid s → KeepsMarks old new
   answered_remains (went now t) kept none s x = by_world _ now x.0 kept none
   answered_remains (strays access) kept none (served.Stray seen) x = remains_same old new x.1
   answered_remains (strays access) kept none served.Replied x = absurd x
@@ -201,19 +197,19 @@ module _ (headers : List (List ℕ)) (a : About) (old new : Kept) (pid : ℕ) wh
   answered_remains full kept none (served.Stray access) x = absurd x
   answered_remains idle kept none s x = absurd x
 
-  goes_remains : (o : After) → AfterHas HasSame o → Goes Unmarked o → (s : Served) → GoesIn headers a o old new pid s → Remains old new
+  goes_remains : (o : After) → AfterHas HasSame o → Goes Unmarked o → (s : Served) → GoesIn headers a o old new pid s → KeepsMarks old new
   goes_remains (after p over) kept none s x = by_memory _ p x.0 kept none
   goes_remains (no_room p) kept none s x = remains_same old new x.1
   goes_remains nobody kept none s x = absurd x
 
-  reach_remains : (reach : Reach) (o : After) → AfterHas HasSame o → Goes Unmarked o → (s : Served) → ((access : Access) → s ≡ served.Stray access → new ≡ old) → InReach reach headers a o old new pid (Ok s) → Remains old new
-  reach_remains Whole o kept none s same x = goes_remains o kept none s x
-  reach_remains Own o kept none (served.Stray access) same x = remains_same old new (same access refl)
-  reach_remains Own o kept none served.Replied same x = goes_remains o kept none served.Replied x
-  reach_remains Own o kept none served.TurnEnds same x = goes_remains o kept none served.TurnEnds x
-  reach_remains Own o kept none served.Waits same x = goes_remains o kept none served.Waits x
-  reach_remains Own o kept none served.Ended same x = goes_remains o kept none served.Ended x
-  reach_remains Own o kept none served.LogFull same x = goes_remains o kept none served.LogFull x
+  reach_remains : (mode : Mode) (o : After) → AfterHas HasSame o → Goes Unmarked o → (s : Served) → ((access : Access) → s ≡ served.Stray access → new ≡ old) → InReach mode headers a o old new pid (Ok s) → KeepsMarks old new
+  reach_remains GoOn o kept none s same x = goes_remains o kept none s x
+  reach_remains Halt o kept none (served.Stray access) same x = remains_same old new (same access refl)
+  reach_remains Halt o kept none served.Replied same x = goes_remains o kept none served.Replied x
+  reach_remains Halt o kept none served.TurnEnds same x = goes_remains o kept none served.TurnEnds x
+  reach_remains Halt o kept none served.Waits same x = goes_remains o kept none served.Waits x
+  reach_remains Halt o kept none served.Ended same x = goes_remains o kept none served.Ended x
+  reach_remains Halt o kept none served.LogFull same x = goes_remains o kept none served.LogFull x
 
   of_world : HasSame (world_of a old)
   unfolding world_of
@@ -224,22 +220,22 @@ module _ (headers : List (List ℕ)) (a : About) (old new : Kept) (pid : ℕ) wh
   of_memory noted = noted
 
   -- within reach, which is all of memory only behind a noted stray access
-  pub call_remains : (reach : Reach) → (reach ≡ Whole → has_stray old.notes ≡ true) → (r : Result Served AllocError)
-      → (reach ≡ Own → has_stray old.notes ≡ false → Serves a (called (world_of a old) pid) old new pid r)
-      → InReach reach headers a (called_in (physical_of headers a old) pid) old new pid r → ((access : Access) → r ≡ Ok (served.Stray access) → new ≡ old) → Remains old new
-  call_remains Own strayed (Err error) serves x same = remains_same old new x
-  call_remains Whole strayed (Err error) serves x same = remains_same old new x
-  call_remains reach strayed (Ok s) serves x same = by_notes (has_stray old.notes) refl
+  pub call_remains : (mode : Mode) → (mode ≡ GoOn → has_stray old.notes ≡ true) → (r : Result Served AllocError)
+      → (mode ≡ Halt → has_stray old.notes ≡ false → Serves a (called (world_of a old) pid) old new pid r)
+      → InReach mode headers a (called_in (physical_of headers a old) pid) old new pid r → ((access : Access) → r ≡ Ok (served.Stray access) → new ≡ old) → KeepsMarks old new
+  call_remains Halt strayed (Err error) serves x same = remains_same old new x
+  call_remains GoOn strayed (Err error) serves x same = remains_same old new x
+  call_remains mode strayed (Ok s) serves x same = by_notes (has_stray old.notes) refl
     where
-      own : (r : Reach) → reach ≡ r → has_stray old.notes ≡ false → reach ≡ Own
-      own Own is quiet = is
-      own Whole is quiet = absurd (let e : true ≡ false = sym (strayed is) ∙ quiet in cc)
+      own : (r : Mode) → mode ≡ r → has_stray old.notes ≡ false → mode ≡ Halt
+      own Halt is quiet = is
+      own GoOn is quiet = absurd (let e : true ≡ false = sym (strayed is) ∙ quiet in cc)
 
-      by_notes : (b : Bool) → has_stray old.notes ≡ b → Remains old new
-      by_notes false is = answered_remains (called (world_of a old) pid) (called_keeps (has_stray old.notes) (world_of a old) of_world pid) (called_unmarked (world_of a old) pid) s (serves (own reach refl is) is)
+      by_notes : (b : Bool) → has_stray old.notes ≡ b → KeepsMarks old new
+      by_notes false is = answered_remains (called (world_of a old) pid) (called_keeps (has_stray old.notes) (world_of a old) of_world pid) (called_unmarked (world_of a old) pid) s (serves (own mode refl is) is)
       by_notes true is =
           let kept = called_in_keeps (physical_of headers a old) (of_memory is) pid in
-          reach_remains reach (called_in (physical_of headers a old) pid) (subst (λ (b : Bool). AfterHas (Same b) (called_in (physical_of headers a old) pid)) (sym is) kept) (called_in_unmarked (physical_of headers a old) pid) s
+          reach_remains mode (called_in (physical_of headers a old) pid) (subst (λ (b : Bool). AfterHas (Same b) (called_in (physical_of headers a old) pid)) (sym is) kept) (called_in_unmarked (physical_of headers a old) pid) s
           (λ access is_stray. same access (ap Ok is_stray)) x
 
   -- an end by a signal

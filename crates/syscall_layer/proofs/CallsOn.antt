@@ -7,14 +7,16 @@ use Rattle.machine_world.specs.Event.{Outcome, went, strays, full, idle, called,
 use Rattle.memory_world.specs.Physical.{Physical, After, after, no_room, nobody, has_stray, with_stray, called_in}
 use Rattle.kept_parts.specs.declared.served.Served.{Served}
 use Rattle.kept_parts.specs.declared.served.Served.TheVariants as served
-use Rattle.kept_parts.specs.declared.reach.Reach.{Reach}
-use Rattle.kept_parts.specs.declared.reach.Reach.TheVariants.{Own, Whole}
+use Rattle.region_watch.specs.declared.mode.Mode.{Mode}
+use Rattle.region_watch.specs.declared.mode.Mode.TheVariants.{Halt, GoOn}
 use Rattle.kept_parts.specs.Kept.{Kept}
 use Rattle.kept_parts.specs.Reach.{is_whole}
 use Rattle.kept_parts.specs.Stands.{About, world_of}
-use Rattle.kept_parts.specs.Serves.{Answered}
-use Rattle.syscall_layer.specs.ByMode.{ServesFirst, GoOnServes}
-use Rattle.syscall_layer.specs.Parts.{RunParts, noted_by}
+use Rattle.kept_parts.specs.Serves.{Answered, Serves}
+use Rattle.syscall_layer.specs.ByMode.{ServesFirst, GoOnServes, LeavesBehind}
+use Rattle.syscall_layer.specs.Parts.{RunParts, KeepsRun, noted_by}
+use Rattle.syscall_layer.proofs.CallsKeep.{parts_with}
+use Rattle.bflt_format.specs.Values.{Values}
 use Rattle.page_runs.specs.declared.place.Kind.{Kind}
 use Rattle.kept_parts.specs.Flats.{ForRuns}
 use Rattle.std.specs.Result.{IsErr}
@@ -37,9 +39,14 @@ not_stray served.Ended other is = is
 not_stray served.LogFull other is = is
 
 -- within its own bytes none was noted
-own_reach : (reach : Reach) → is_whole reach ≡ false → reach ≡ Own
-own_reach Own is = refl
-own_reach Whole is = absurd (let e : true ≡ false = is in cc)
+pub own_reach : (mode : Mode) → is_whole mode ≡ false → mode ≡ Halt
+own_reach Halt is = refl
+own_reach GoOn is = absurd (let e : true ≡ false = is in cc)
+
+-- and over all of memory one was
+pub whole_reach : (mode : Mode) → is_whole mode ≡ true → mode ≡ GoOn
+whole_reach GoOn is = refl
+whole_reach Halt is = absurd (let e : false ≡ true = is in cc)
 
 module _ (headers : List (List ℕ)) (a : About) (old : Kept) (pid : ℕ) where
   abbrev there : Physical
@@ -69,18 +76,18 @@ module _ (headers : List (List ℕ)) (a : About) (old : Kept) (pid : ℕ) where
   quiet_by (strays access) new served.Ended other x = absurd x
   quiet_by (strays access) new served.LogFull other x = absurd x
 
-  goes_of : (reach : Reach) (o : After) (new : Kept) (s : Served) → (IsStray s → ⊥) → InReach reach headers a o old new pid (Ok s) → GoesIn headers a o old new pid s
-  goes_of Whole o new s other x = x
-  goes_of Own o new (served.Stray access) other x = absurd (other tt)
-  goes_of Own o new served.Replied other x = x
-  goes_of Own o new served.TurnEnds other x = x
-  goes_of Own o new served.Waits other x = x
-  goes_of Own o new served.Ended other x = x
-  goes_of Own o new served.LogFull other x = x
+  goes_of : (mode : Mode) (o : After) (new : Kept) (s : Served) → (IsStray s → ⊥) → InReach mode headers a o old new pid (Ok s) → GoesIn headers a o old new pid s
+  goes_of GoOn o new s other x = x
+  goes_of Halt o new (served.Stray access) other x = absurd (other tt)
+  goes_of Halt o new served.Replied other x = x
+  goes_of Halt o new served.TurnEnds other x = x
+  goes_of Halt o new served.Waits other x = x
+  goes_of Halt o new served.Ended other x = x
+  goes_of Halt o new served.LogFull other x = x
 
-  none_first : (reach : Reach) → has_stray old.notes ≡ is_whole reach → (reach ≡ Own → stray_in outcome ≡ None) → first_range there pid ≡ None
-  none_first Own strayed quiet = range_is false strayed ∙ quiet refl
-  none_first Whole strayed quiet = range_is true strayed
+  none_first : (mode : Mode) → has_stray old.notes ≡ is_whole mode → (mode ≡ Halt → stray_in outcome ≡ None) → first_range there pid ≡ None
+  none_first Halt strayed quiet = range_is false strayed ∙ quiet refl
+  none_first GoOn strayed quiet = range_is true strayed
 
   as_found : (range : Option Access) → first_range there pid ≡ range → (new : Kept) (s : Served) → GoesIn headers a (called_in (with_stray pid range there) pid) (with_range pid range old) new pid s
       → ServesOn headers a old new pid (Ok s)
@@ -88,13 +95,13 @@ module _ (headers : List (List ℕ)) (a : About) (old : Kept) (pid : ℕ) where
   as_found range is new s x =
       subst (λ (found : Option Access). GoesIn headers a (called_in (with_stray pid found there) pid) (with_range pid found old) new pid s) (sym is) x
 
-  module _ (reach : Reach) (strayed : has_stray old.notes ≡ is_whole reach) (new : Kept) (s : Served) (other : (access : Access) → s ≢ served.Stray access)
-      (serves : reach ≡ Own → Answered a outcome old new pid s) where
+  module _ (mode : Mode) (strayed : has_stray old.notes ≡ is_whole mode) (new : Kept) (s : Served) (other : (access : Access) → s ≢ served.Stray access)
+      (serves : mode ≡ Halt → Answered a outcome old new pid s) where
     unstrayed : first_range there pid ≡ None
-    unstrayed = none_first reach strayed (λ own. quiet_by outcome new s (not_stray s other) (serves own))
+    unstrayed = none_first mode strayed (λ own. quiet_by outcome new s (not_stray s other) (serves own))
 
-    pub serves_unstrayed : InReach reach headers a (called_in there pid) old new pid (Ok s) → ServesOn headers a old new pid (Ok s)
-    serves_unstrayed x = as_found None unstrayed new s (goes_of reach (called_in there pid) new s (not_stray s other) x)
+    pub serves_unstrayed : InReach mode headers a (called_in there pid) old new pid (Ok s) → ServesOn headers a old new pid (Ok s)
+    serves_unstrayed x = as_found None unstrayed new s (goes_of mode (called_in there pid) new s (not_stray s other) x)
 
     pub notes_unstrayed : new.notes ≡ old.notes → new.notes ≡ (with_range pid (first_range there pid) old).notes
     notes_unstrayed is = is ∙ ap (λ (found : Option Access). (with_range pid found old).notes) (sym unstrayed)
@@ -112,7 +119,7 @@ module _ (headers : List (List ℕ)) (a : About) (old : Kept) (pid : ℕ) where
     first_unstrayed (strays access) served.LogFull goes x = absurd x
 
     pub serves_first : has_stray old.notes ≡ false → ServesFirst a outcome old new pid (Ok s)
-    serves_first quiet = first_unstrayed outcome s (not_stray s other) (serves (own_reach reach (sym strayed ∙ quiet)))
+    serves_first quiet = first_unstrayed outcome s (not_stray s other) (serves (own_reach mode (sym strayed ∙ quiet)))
 
   -- ---- one strays
 
@@ -135,9 +142,9 @@ module _ (headers : List (List ℕ)) (a : About) (old : Kept) (pid : ℕ) where
   never_strays nobody new access x = absurd x
 
   -- it is within its own bytes that one strays
-  stray_own : (reach : Reach) (o : After) (new : Kept) (access : Access) → InReach reach headers a o old new pid (Ok (served.Stray access)) → reach ≡ Own
-  stray_own Own o new access x = refl
-  stray_own Whole o new access x = absurd (never_strays o new access x)
+  stray_own : (mode : Mode) (o : After) (new : Kept) (access : Access) → InReach mode headers a o old new pid (Ok (served.Stray access)) → mode ≡ Halt
+  stray_own Halt o new access x = refl
+  stray_own GoOn o new access x = absurd (never_strays o new access x)
 
   stray_is : (o : Outcome) (new : Kept) (access : Access) → Answered a o old new pid (served.Stray access) → stray_in o ≡ Some access
   stray_is (strays seen) new access x = ap Some (sym x.0)
@@ -150,10 +157,10 @@ module _ (headers : List (List ℕ)) (a : About) (old : Kept) (pid : ℕ) where
     pub quiet : has_stray old.notes ≡ false
     pub is : stray_in outcome ≡ Some access
 
-  pub strays_by : (reach : Reach) → has_stray old.notes ≡ is_whole reach → (mid : Kept) (access : Access) (s : Served) → s ≡ served.Stray access
-      → (reach ≡ Own → has_stray old.notes ≡ false → Answered a outcome old mid pid s) → InReach reach headers a (called_in there pid) old mid pid (Ok s) → IsFirst access
-  strays_by reach strayed mid access s same serves memory =
-      let own = stray_own reach (called_in there pid) mid access (subst (λ (t : Served). InReach reach headers a (called_in there pid) old mid pid (Ok t)) same memory) in
+  pub strays_by : (mode : Mode) → has_stray old.notes ≡ is_whole mode → (mid : Kept) (access : Access) (s : Served) → s ≡ served.Stray access
+      → (mode ≡ Halt → has_stray old.notes ≡ false → Answered a outcome old mid pid s) → InReach mode headers a (called_in there pid) old mid pid (Ok s) → IsFirst access
+  strays_by mode strayed mid access s same serves memory =
+      let own = stray_own mode (called_in there pid) mid access (subst (λ (t : Served). InReach mode headers a (called_in there pid) old mid pid (Ok t)) same memory) in
       let quiet = strayed ∙ ap is_whole own in
       record { quiet = quiet; is = stray_is outcome mid access (subst (Answered a outcome old mid pid) same (serves own quiet)) }
 
@@ -164,18 +171,13 @@ module _ (headers : List (List ℕ)) (a : About) (old : Kept) (pid : ℕ) where
     abbrev behind : Kept
     behind = with_range pid (Some access) old
 
-    serves_noted : (new : Kept) (s : Served) → InReach Whole headers a (called_in (physical_of headers a behind) pid) behind new pid (Ok s) → ServesOn headers a old new pid (Ok s)
+    serves_noted : (new : Kept) (s : Served) → InReach GoOn headers a (called_in (physical_of headers a behind) pid) behind new pid (Ok s) → ServesOn headers a old new pid (Ok s)
     serves_noted new s x = as_found (Some access) first_is new s (subst (λ (p : Physical). GoesIn headers a (called_in p pid) behind new pid s) (noted_in access) x)
 
     notes_behind : (new : Kept) → new.notes ≡ behind.notes → new.notes ≡ (with_range pid (first_range there pid) old).notes
     notes_behind new same = same ∙ ap (λ (found : Option Access). (with_range pid found old).notes) (sym first_is)
 
 -- ---- the call behind that note, by what it tells of the parts that it is shown
-
-pub record LeavesBehind (kind : Kind) (pid : ℕ) (p q : RunParts) (r : Result Served AllocError) : Type 0 where
-  pub memory : ForRuns kind p.programs (λ a. InReach Whole (headers_of p.programs) a (called_in (physical_of (headers_of p.programs) a p.kept) pid) p.kept q.kept pid r)
-  pub unnoted : r ≡ Ok served.Waits → q.kept.notes ≡ p.kept.notes
-  pub strayed : has_stray q.kept.notes ≡ true
 
 pub leaves_behind : (kind : Kind) (pid : ℕ) (r : Result Served AllocError) (shown left p q : RunParts) → shown ≡ p → left ≡ q → LeavesBehind kind pid shown left r → LeavesBehind kind pid p q r
 leaves_behind kind pid r shown left p q shows leaves x =
@@ -201,10 +203,10 @@ module _ (kind : Kind) (pid : ℕ) (access : Access) (old new : RunParts) (first
 
 -- ---- out of memory
 
-pub unchanged_by : (headers : List (List ℕ)) (a : About) (o : After) (old new : Kept) (pid : ℕ) (reach : Reach) (r : Result Served AllocError) → InReach reach headers a o old new pid r → OnErr r (new ≡ old)
-unchanged_by headers a o old new pid reach (Ok s) x = tt
-unchanged_by headers a o old new pid Own (Err error) x = x
-unchanged_by headers a o old new pid Whole (Err error) x = x
+pub unchanged_by : (headers : List (List ℕ)) (a : About) (o : After) (old new : Kept) (pid : ℕ) (mode : Mode) (r : Result Served AllocError) → InReach mode headers a o old new pid r → OnErr r (new ≡ old)
+unchanged_by headers a o old new pid mode (Ok s) x = tt
+unchanged_by headers a o old new pid Halt (Err error) x = x
+unchanged_by headers a o old new pid GoOn (Err error) x = x
 
 pub of_err : {A E : Type 0} (P : Type 0) (r : Result A E) → IsErr r → OnErr r P → P
 of_err P (Ok x) is p = absurd cc
@@ -217,3 +219,26 @@ on_err P (Err error) is = is
 pub on_ok : {A E : Type 0} (P : Type 0) (r : Result A E) → P → IfOk r (λ x. P)
 on_ok P (Ok x) is = is
 on_ok P (Err error) is = tt
+
+-- ---- an access beyond reach
+
+-- it strays, and nothing is done
+pub stray_answers : (a : About) (o : Outcome) (old new : Kept) (pid : ℕ) (access : Access) (r : Result Served AllocError) → (r ≡ Ok (served.Stray access)) × (new ≡ old) → Answered a o old old pid (served.Stray access)
+    → Serves a o old new pid r
+stray_answers a o old new pid access r same x =
+    subst (λ (t : Result Served AllocError). Serves a o old new pid t) (sym same.0) (subst (λ (now : Kept). Answered a o old now pid (served.Stray access)) (sym same.1) x)
+
+-- the parts of a run are unchanged where what is kept is
+pub parts_unchanged : {A : Type 0} (r : Result A AllocError) (programs : List Values) (mode : Mode) (noted : Bool) (old new : Kept) → OnErr r (new ≡ old) → OnErr r (parts_with programs mode noted new ≡ parts_with programs mode noted old)
+parts_unchanged (Ok x) programs mode noted old new same = tt
+parts_unchanged (Err error) programs mode noted old new same = ap (parts_with programs mode noted) same
+
+-- behind the note of a stray access they keep what a run keeps, and out of memory too
+pub keeps_behind : (pid : ℕ) (access : Access) (old new : RunParts) (r : Result Served AllocError) → old.noted ≡ has_stray old.kept.notes → OnErr r (new ≡ old) → IfOk r (λ done. KeepsRun (noted_by pid access old) new)
+    → KeepsRun old new
+keeps_behind pid access old new (Ok s) tied same keeps = record { programs = keeps.programs; mode = keeps.mode; noted = keeps.noted }
+keeps_behind pid access old new (Err error) tied same keeps = record {
+  programs = ap (λ (p : RunParts). p.programs) same;
+  mode = ap (λ (p : RunParts). p.mode) same;
+  noted = ap (λ (p : RunParts). p.noted) same ∙ tied ∙ sym (ap (λ (p : RunParts). has_stray p.kept.notes) same);
+}

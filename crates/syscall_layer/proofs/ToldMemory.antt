@@ -32,8 +32,8 @@ use Rattle.memory_world.specs.Physical.{Physical, After, after, no_room, in_memo
 use Rattle.memory_world.proofs.InMemory.{answered_begins, waited_begins}
 use Rattle.kept_parts.specs.declared.task.Task.{Task}
 use Rattle.kept_parts.specs.declared.effect.Effect.TheVariants.{Answer}
-use Rattle.kept_parts.specs.declared.reach.Reach.{Reach}
-use Rattle.kept_parts.specs.declared.reach.Reach.TheVariants.{Own, Whole}
+use Rattle.region_watch.specs.declared.mode.Mode.{Mode}
+use Rattle.region_watch.specs.declared.mode.Mode.TheVariants.{Halt, GoOn}
 use Rattle.kept_parts.specs.declared.served.Served.{Served}
 use Rattle.kept_parts.specs.declared.served.Served.TheVariants as result
 use Rattle.kept_parts.specs.Kept.{Kept}
@@ -204,10 +204,10 @@ module _ (headers : List (List ℕ)) (a : About) (k : Kept) (e : Entry Task) (h 
 -- ---- within reach
 
 -- what follows of what goes follows of what is within reach
-pub reach_goes : (headers : List (List ℕ)) (a : About) (x y : After) (old mid new : Kept) (pid : ℕ) (reach : Reach) (s : Served) →
-    (GoesIn headers a x old mid pid s → GoesIn headers a y old new pid s) → InReach reach headers a x old mid pid (Ok s) → InReach reach headers a y old new pid (Ok s)
-reach_goes headers a x y old mid new pid Whole s goes was = goes was
-reach_goes headers a x y old mid new pid Own s goes was = by_served s goes was
+pub reach_goes : (headers : List (List ℕ)) (a : About) (x y : After) (old mid new : Kept) (pid : ℕ) (mode : Mode) (s : Served) →
+    (GoesIn headers a x old mid pid s → GoesIn headers a y old new pid s) → InReach mode headers a x old mid pid (Ok s) → InReach mode headers a y old new pid (Ok s)
+reach_goes headers a x y old mid new pid GoOn s goes was = goes was
+reach_goes headers a x y old mid new pid Halt s goes was = by_served s goes was
   where
     by_served : (s : Served) → (GoesIn headers a x old mid pid s → GoesIn headers a y old new pid s) → UnlessStray s (GoesIn headers a x old mid pid s) → UnlessStray s (GoesIn headers a y old new pid s)
     by_served result.Replied goes was = goes was

@@ -27,6 +27,12 @@ pub record AreTied (marked : Bool) (k : Kept) : Type 0 where
   pub noted : marked ≡ has_stray k.notes
   pub unmarked : k.files.changed ≡ []
 
+-- the programs and the mode stay, and a stray access is marked as noted exactly where the notes have one
+pub record KeepsRun (old new : RunParts) : Type 0 where
+  pub programs : new.programs ≡ old.programs
+  pub mode : new.mode ≡ old.mode
+  pub noted : new.noted ≡ has_stray new.kept.notes
+
 -- where a run has ended that ends at its first stray access, by its notes, which stand newest first
 abbrev pub halted_at : Mode → List Note → Option Access
 halted_at Halt notes = first_noted (reverse notes)

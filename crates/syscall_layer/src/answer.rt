@@ -13,54 +13,51 @@ ghost use Rattle.mmap_rules.specs.Want.{AsksPages};
 ghost use Rattle.mmap_rules.specs.MapState.{map_state, file_in};
 ghost use Rattle.mmap_rules.specs.MapState.{mapped as mapped_in};
 ghost use Rattle.mem_files.specs.Inodes.{bytes_of};
-ghost use Rattle.machine_world.specs.Asks.{Reply, replies};
+ghost use Rattle.machine_world.specs.Asks.{Reply, replies, refuses};
 ghost use Rattle.machine_world.specs.MapCalls.{mapped};
 ghost use Rattle.machine_world.specs.Rows.{row};
-ghost use Rattle.machine_world.specs.Event.{room_for, called, classed, answered, exited, waited, settled};
+ghost use Rattle.machine_world.specs.Event.{room_for, classed, answered, exited, waited, settled};
 ghost use Rattle.vfork_exec.specs.declared.family.State.TheVariants.{OnPipe};
 ghost use Rattle.file_calls.specs.Calls.{IsChange, IsOutput, DoesNotWait, got_of};
-ghost use Rattle.file_calls.specs.Outcomes.{GivesRow, CanTake, HasEnds};
+ghost use Rattle.file_calls.specs.Outcomes.{GivesRow};
 ghost use Rattle.kept_parts.specs.declared.task.Task.{Task};
 ghost use Rattle.kept_parts.specs.Stands.{About, process_of, world_of};
 ghost use Rattle.region_watch.specs.Private.{physical};
-ghost use Rattle.memory_world.specs.Physical.{outside, has_stray, carried, killed, settled_in, answered_in, classed_in, called_in};
+ghost use Rattle.memory_world.specs.Physical.{outside, has_stray, carried, killed, settled_in, answered_in, classed_in, died_in};
 ghost use Rattle.region_watch.specs.declared.mode.Mode.TheVariants.{Halt, GoOn};
-ghost use Rattle.kept_parts.specs.declared.reach.Reach.TheVariants.{Own, Whole};
-ghost use Rattle.kept_parts.specs.declared.served.Served.TheVariants.{Replied, TurnEnds, Waits, Stray};
+ghost use Rattle.kept_parts.specs.declared.served.Served.TheVariants.{Replied, Stray};
 ghost use Rattle.kept_parts.specs.Copies.{HoldsFiles, StillHolds};
-ghost use Rattle.kept_parts.specs.InMemory.{headers_of, physical_of, ServesIn, InReach};
+ghost use Rattle.kept_parts.specs.InMemory.{headers_of, physical_of, ServesIn};
+ghost use Rattle.kept_parts.specs.Leaves.{CanGive};
 ghost use Rattle.kept_parts.specs.Reach.{writable};
-ghost use Rattle.kept_parts.specs.Serves.{Answered, Serves, Tells, WaitsAt, went_by};
-ghost use Rattle.mmap_rules.specs.Copies.{IsKnown};
+ghost use Rattle.kept_parts.specs.Serves.{Answered, Serves, Tells, went_by};
 ghost use Rattle.call_bytes.specs.Puts.{stray_range, access_at, IsRange};
 ghost use Rattle.kept_parts.specs.Regular.{Regular};
 ghost use Rattle.kept_parts.specs.Recorded.{room_beside};
-ghost use Rattle.kept_parts.specs.MapsIn.{IsAsked};
+ghost use Rattle.kept_parts.specs.MapsIn.{IsWanted};
 ghost use Rattle.kept_parts.specs.Brings.{recorded_bytes};
 ghost use Rattle.kept_parts.specs.Calls.{LivesIn, Caller, maps_by, asked_by, reply_of, output_reply, served_by};
-ghost use Rattle.kept_parts.specs.Flats.{ForRuns};
-ghost use Rattle.syscall_layer.specs.ByMode.{HaltServes, GoOnServes};
+ghost use Rattle.syscall_layer.specs.Answers.{Answers, AnswersIn, ServesWithin, ToldOf, WaitsAsTold, KeepsMarks};
+ghost use Rattle.syscall_layer.specs.ByMode.{HaltServes, GoOnServes, LeavesBehind};
+ghost use Rattle.syscall_layer.specs.Parts.{KeepsRun};
 
 use crate::call::call_of;
 use crate::classes::{Class, class_of};
 use crate::effects::effect_of;
 use crate::family::{answer_clone, answer_exec, answer_waitid};
-use crate::parts::Parts;
+use crate::parts::{Parts, SIGSEGV};
 use crate::want::want_of;
 use bflt_format::Flat;
 use call_bytes::{Unread, got_len, stray_got};
-use call_log::Got;
+use call_log::{Errno, Got};
 use file_calls::{Call, Outcome, output, wait_of};
-use kept_parts::{Effect, KeptParts, Reach, Served};
+use kept_parts::{Effect, KeptParts, Served};
 use mmap_rules::{Want, fits};
 use page_runs::{Chooser, Run};
 use phys_mem::PAGE;
 use region_watch::Mode;
 use rv32im_step::{Access, AccessKind};
 use std::alloc::AllocError;
-
-/// The signal of an access outside memory.
-const SIGSEGV: u8 = 11;
 
 /// What came of a call that was carried out.
 fn served_by(effect: Effect) -> Served
@@ -108,9 +105,7 @@ fn recorded_len(parts: &KeptParts, pid: u32, want: Want) -> u64
 /// Whether it has room for an mmap2 with what it would bring.
 fn has_room_to_map(parts: &KeptParts, call: &Call, want: Want) -> bool
     requires lives { Lives parts.now.procs call.now.pid }
-    requires known { IsKnown parts.now.tree want }
-    requires pages { AsksPages want }
-    requires asked { IsAsked call.now want }
+    requires wanted { IsWanted parts.now.tree call.now want }
     ensures room { (a : About) → (c : Caller parts.now call.now) →
         (reply : Reply) → mapped (asked_by a c) want ≡ replies reply → result ≡ room_for (world_of a parts.now) (asked_by a c) reply }
     ensures alone { result ≡ true → room_beside parts.now (length call.now.sent.items) ≡ true }
@@ -156,6 +151,18 @@ pub(crate) fn answer_effect(
     Ok(served_by(effect))
 }
 
+/// Refuses a call, where the log has room for it.
+pub(crate) fn refuse(parts: &mut KeptParts, call: Call, errno: Errno) -> Result<Served, AllocError>
+    requires lives { Lives parts.old.procs call.pid }
+    ensures serves { (a : About) → (c : Caller parts.old call) →
+        Serves a (answered (world_of a parts.old) (asked_by a c) (refuses (asked_by a c) errno)) parts.old parts.new call.pid result }
+    ensures memory { parts.new.mem ≡ parts.old.mem }
+    ensures holds { HoldsFiles parts.old → HoldsFiles parts.new }
+    ensures leaves { CanRun parts.old.procs call.pid → IfOk result (Tells parts.old parts.new call.pid) }
+{
+    answer_effect(parts, call, Effect::Answer(errno.refusal()))
+}
+
 /// Carries out a call that changes files and doesn't wait, where the log has room for it.
 fn answer_change(parts: &mut KeptParts, call: Call) -> Result<Served, AllocError>
     requires lives { Lives parts.old.procs call.pid }
@@ -175,49 +182,48 @@ fn answer_change(parts: &mut KeptParts, call: Call) -> Result<Served, AllocError
 }
 
 /// The first range that the bytes of a call may not be written to.
-fn stray_of(parts: &KeptParts, pid: u32, got: &[Got], reach: Reach) -> Option<Access>
+fn stray_of(parts: &KeptParts, pid: u32, got: &[Got], mode: Mode) -> Option<Access>
     requires lives { Lives parts.now.procs pid }
     requires ranges { All IsRange (map got_value got.now) }
     ensures { (e : Entry Task) → (h : Held) → LivesIn parts.now pid e h →
-        result ≡ option_map (access_at e.value.regs.pc) (stray_range (writable reach (length parts.now.regions) h) (map got_value got.now)) }
+        result ≡ option_map (access_at e.value.regs.pc) (stray_range (writable mode (length parts.now.regions) h) (map got_value got.now)) }
 {
     let task = parts.procs.get(pid);
-    let owners = parts.table_of(task.space, reach);
+    let owners = parts.table_of(task.space, mode);
     stray_got(owners, task.regs.pc, got)
 }
 
-/// What comes of an access beyond reach: it strays, and nothing is done; or it lies outside memory, and the process ends by SIGSEGV.
-fn beyond_reach(
+/// What comes of a call whose bytes go beyond reach: it strays, and nothing is done; or they lie outside memory, and the process ends by
+/// SIGSEGV.
+fn output_beyond_reach(
     parts: &mut KeptParts,
     pid: u32,
     access: Access,
-    reach: Reach,
+    mode: Mode,
 ) -> Result<Served, AllocError>
     requires { CanRun parts.old.procs pid }
-    ensures strays { reach ≡ Own → (result ≡ Ok (Stray access)) × (parts.new ≡ parts.old) }
+    ensures strays { mode ≡ Halt → (result ≡ Ok (Stray access)) × (parts.new ≡ parts.old) }
     ensures silent { result ≢ Ok Replied }
-    ensures memory { reach ≡ Whole → (headers : List (List ℕ)) → (a : About) → (e : Entry Task) → (h : Held) → LivesIn parts.old pid e h →
+    ensures memory { mode ≡ GoOn → (headers : List (List ℕ)) → (a : About) → (e : Entry Task) → (h : Held) → LivesIn parts.old pid e h →
         ServesIn headers a (killed (physical_of headers a parts.old) (process_of e) outside) parts.old parts.new pid result }
     ensures leaves { IfOk result (Tells parts.old parts.new pid) }
 {
-    match reach {
-        Reach::Own => Ok(Served::Stray(access)),
-        Reach::Whole => {
+    match mode {
+        Mode::Halt => Ok(Served::Stray(access)),
+        Mode::GoOn => {
             parts.die(pid, SIGSEGV)?;
             Ok(Served::Ended)
         }
     }
 }
 
-/// What a call gives. Each of its ranges is one that an access can have.
+/// What a call gives, which can be carried out.
 fn outcome_of(parts: &KeptParts, call: &Call) -> Result<Outcome, AllocError>
     requires output { IsOutput call.now.number }
     requires replies { DoesNotWait call.now parts.now.files }
     requires room { slice_index call.now.args 2 < 2 ^ 32 }
     ensures gives { IfOk result (GivesRow row call.now parts.now.tree parts.now.files) }
-    ensures fits { IfOk result (λ o. CanTake parts.now.files o.then) }
-    ensures ends { IfOk result (λ o. HasEnds parts.now.files call.now.table o.then) }
-    ensures ranges { IfOk result (λ o. All IsRange (got_of o)) }
+    ensures can { IfOk result (CanGive parts.now.files call.now.table) }
 {
     let alloc = *parts.console.allocator();
     output(alloc, &parts.tree, &parts.files, call)
@@ -228,24 +234,18 @@ pub(crate) fn answer_outcome(
     parts: &mut KeptParts,
     call: Call,
     outcome: Outcome,
-    reach: Reach,
+    mode: Mode,
 ) -> Result<Served, AllocError>
     requires ready { CanRun parts.old.procs call.pid }
-    requires strayed { reach ≡ Whole → has_stray parts.old.notes ≡ true }
-    requires fits { CanTake parts.old.files outcome.then }
-    requires ends { HasEnds parts.old.files call.table outcome.then }
-    requires ranges { All IsRange (got_of outcome) }
+    requires strayed { mode ≡ GoOn → has_stray parts.old.notes ≡ true }
+    requires can { CanGive parts.old.files call.table outcome }
     requires plain { (call.number == numbers.mmap2) ≡ false }
-    ensures serves { reach ≡ Own → (a : About) → (c : Caller parts.old call) →
-        Serves a (answered (world_of a parts.old) (asked_by a c) (replies (output_reply (asked_by a c) outcome))) parts.old parts.new call.pid result }
-    ensures memory { (headers : List (List ℕ)) → (a : About) → (c : Caller parts.old call) →
-        InReach reach headers a (answered_in (physical_of headers a parts.old) (asked_by a c) (replies (output_reply (asked_by a c) outcome))) parts.old parts.new call.pid result }
-    ensures holds { reach ≡ Own → HoldsFiles parts.old → HoldsFiles parts.new }
+    ensures answers { Answers mode call parts.old parts.new (λ a c. answered (world_of a parts.old) (asked_by a c) (replies (output_reply (asked_by a c) outcome)))
+        (λ headers a c. answered_in (physical_of headers a parts.old) (asked_by a c) (replies (output_reply (asked_by a c) outcome))) result }
     ensures lives { result ≡ Ok Replied → Lives parts.new.procs call.pid }
-    ensures leaves { IfOk result (Tells parts.old parts.new call.pid) }
 {
-    if let Some(access) = stray_of(parts, call.pid, &outcome.got, reach) {
-        return beyond_reach(parts, call.pid, access, reach);
+    if let Some(access) = stray_of(parts, call.pid, &outcome.got, mode) {
+        return output_beyond_reach(parts, call.pid, access, mode);
     }
     if !has_room_with(parts, &call, &outcome.got) {
         return Ok(Served::LogFull);
@@ -255,21 +255,17 @@ pub(crate) fn answer_outcome(
 }
 
 /// Carries out a call that gives bytes and doesn't wait, where they are within reach and the log has room for them.
-fn answer_output(parts: &mut KeptParts, call: Call, reach: Reach) -> Result<Served, AllocError>
+fn answer_output(parts: &mut KeptParts, call: Call, mode: Mode) -> Result<Served, AllocError>
     requires ready { CanRun parts.old.procs call.pid }
-    requires strayed { reach ≡ Whole → has_stray parts.old.notes ≡ true }
+    requires strayed { mode ≡ GoOn → has_stray parts.old.notes ≡ true }
     requires output { IsOutput call.number }
     requires replies { DoesNotWait call parts.old.files }
     requires room { slice_index call.args 2 < 2 ^ 32 }
-    ensures serves { reach ≡ Own → (a : About) → (c : Caller parts.old call) →
-        Serves a (answered (world_of a parts.old) (asked_by a c) (row (asked_by a c))) parts.old parts.new call.pid result }
-    ensures memory { (headers : List (List ℕ)) → (a : About) → (c : Caller parts.old call) →
-        InReach reach headers a (answered_in (physical_of headers a parts.old) (asked_by a c) (row (asked_by a c))) parts.old parts.new call.pid result }
-    ensures holds { reach ≡ Own → HoldsFiles parts.old → HoldsFiles parts.new }
-    ensures leaves { IfOk result (Tells parts.old parts.new call.pid) }
+    ensures { Answers mode call parts.old parts.new (λ a c. answered (world_of a parts.old) (asked_by a c) (row (asked_by a c)))
+        (λ headers a c. answered_in (physical_of headers a parts.old) (asked_by a c) (row (asked_by a c))) result }
 {
     let outcome = outcome_of(parts, &call)?;
-    answer_outcome(parts, call, outcome, reach)
+    answer_outcome(parts, call, outcome, mode)
 }
 
 /// Maps what an mmap2 asks for, where the log has room for the call, and for what it would bring where that is recorded.
@@ -281,9 +277,7 @@ fn answer_want<F: Fn(&[Run], u32) -> Option<usize>>(
 ) -> Result<Served, AllocError>
     requires chooser { IsChooser F.pre F.post chooser.now }
     requires lives { Lives parts.old.procs call.pid }
-    requires known { IsKnown parts.old.tree want }
-    requires pages { AsksPages want }
-    requires asked { IsAsked call want }
+    requires wanted { IsWanted parts.old.tree call want }
     ensures serves { (a : About) → a.kind ≡ kind_of chooser.now → StillHolds parts.old → (c : Caller parts.old call) →
         Serves a (answered (world_of a parts.old) (asked_by a c) (mapped (asked_by a c) want)) parts.old parts.new call.pid result }
     ensures memory { (headers : List (List ℕ)) → (a : About) → a.kind ≡ kind_of chooser.now → (c : Caller parts.old call) →
@@ -316,7 +310,7 @@ fn answer_map<F: Fn(&[Run], u32) -> Option<usize>>(
 {
     match want_of(&parts.tree, &parts.files, call.table, &call.args) {
         Ok(want) => answer_want(parts, call, want, chooser),
-        Err(errno) => answer_effect(parts, call, Effect::Answer(errno.refusal())),
+        Err(errno) => refuse(parts, call, errno),
     }
 }
 
@@ -356,17 +350,14 @@ fn answer<F: Fn(&[Run], u32) -> Option<usize>>(
     call: Call,
     programs: &[Flat],
     chooser: &Chooser<F>,
-    reach: Reach,
+    mode: Mode,
 ) -> Result<Served, AllocError>
     requires chooser { IsChooser F.pre F.post chooser.now }
     requires ready { CanRun parts.old.procs call.pid }
-    requires strayed { reach ≡ Whole → has_stray parts.old.notes ≡ true }
+    requires strayed { mode ≡ GoOn → has_stray parts.old.notes ≡ true }
     requires room { slice_index call.args 2 < 2 ^ 32 }
-    ensures serves { reach ≡ Own → ForRuns (kind_of chooser.now) programs.now (λ a. StillHolds parts.old → (c : Caller parts.old call) →
-        Serves a (classed (world_of a parts.old) (asked_by a c)) parts.old parts.new call.pid result) }
-    ensures memory { ForRuns (kind_of chooser.now) programs.now (λ a. (c : Caller parts.old call) →
-        InReach reach (headers_of programs.now) a (classed_in (physical_of (headers_of programs.now) a parts.old) (asked_by a c)) parts.old parts.new call.pid result) }
-    ensures holds { reach ≡ Own → HoldsFiles parts.old → HoldsFiles parts.new }
+    ensures answers { AnswersIn mode (kind_of chooser.now) programs.now call parts.old parts.new (λ a c. classed (world_of a parts.old) (asked_by a c))
+        (λ a c. classed_in (physical_of (headers_of programs.now) a parts.old) (asked_by a c)) result }
     ensures leaves { IfOk result (Tells parts.old parts.new call.pid) }
 {
     if let Some(pipe) = wait_of(&parts.files, &call) {
@@ -375,8 +366,8 @@ fn answer<F: Fn(&[Run], u32) -> Option<usize>>(
     match class_of(call.number) {
         Class::Exit => answer_exit(parts, call),
         Class::Change => answer_change(parts, call),
-        Class::Output => answer_output(parts, call, reach),
-        Class::Waitid => answer_waitid(parts, call, reach),
+        Class::Output => answer_output(parts, call, mode),
+        Class::Waitid => answer_waitid(parts, call, mode),
         Class::Munmap => answer_unmap(parts, call),
         Class::Clone => answer_clone(parts, call),
         Class::Execve => answer_exec(parts, call, programs, chooser),
@@ -404,30 +395,49 @@ fn answer_and_wake<F: Fn(&[Run], u32) -> Option<usize>>(
     call: Call,
     programs: &[Flat],
     chooser: &Chooser<F>,
-    reach: Reach,
+    mode: Mode,
 ) -> Result<Served, AllocError>
     requires chooser { IsChooser F.pre F.post chooser.now }
     requires ready { CanRun parts.old.procs call.pid }
-    requires strayed { reach ≡ Whole → has_stray parts.old.notes ≡ true }
+    requires strayed { mode ≡ GoOn → has_stray parts.old.notes ≡ true }
     requires room { slice_index call.args 2 < 2 ^ 32 }
-    ensures serves { reach ≡ Own → ForRuns (kind_of chooser.now) programs.now (λ a. StillHolds parts.old → (c : Caller parts.old call) →
-        Serves a (settled (classed (world_of a parts.old) (asked_by a c))) parts.old parts.new call.pid result) }
-    ensures memory { ForRuns (kind_of chooser.now) programs.now (λ a. (c : Caller parts.old call) →
-        InReach reach (headers_of programs.now) a (settled_in (classed_in (physical_of (headers_of programs.now) a parts.old) (asked_by a c))) parts.old parts.new call.pid result) }
-    ensures holds { reach ≡ Own → HoldsFiles parts.old → HoldsFiles parts.new }
-    ensures stray { (access : Access) → result ≡ Ok (Stray access) → parts.new ≡ parts.old }
-    ensures yields { result ≡ Ok TurnEnds → WaitsAt parts.new.procs call.pid false }
-    ensures waits { result ≡ Ok Waits → parts.old.files.changed ≡ [] → WaitsAt parts.new.procs call.pid true }
-    ensures unnoted { result ≡ Ok Waits → parts.new.notes ≡ parts.old.notes }
+    ensures answers { AnswersIn mode (kind_of chooser.now) programs.now call parts.old parts.new (λ a c. settled (classed (world_of a parts.old) (asked_by a c)))
+        (λ a c. settled_in (classed_in (physical_of (headers_of programs.now) a parts.old) (asked_by a c))) result }
+    ensures told { ToldOf call.pid parts.old parts.new result }
 {
-    let served = answer(parts, call, programs, chooser, reach)?;
+    let served = answer(parts, call, programs, chooser, mode)?;
     if went(served) {
         parts.wake_changed();
     }
     Ok(served)
 }
 
-/// Carries out the system call that a process stands at, which may run, within this reach; those go on that wait on a pipe which it
+/// What comes of an event whose access goes beyond reach: it strays, and nothing is done; or it lies outside memory, and ends its process
+/// by SIGSEGV. Those go on that wait on a pipe of which an end closes.
+pub(crate) fn beyond_reach(
+    parts: &mut KeptParts,
+    pid: u32,
+    access: Access,
+    mode: Mode,
+) -> Result<Served, AllocError>
+    requires { CanRun parts.old.procs pid }
+    ensures strays { mode ≡ Halt → (result ≡ Ok (Stray access)) × (parts.new ≡ parts.old) }
+    ensures memory { mode ≡ GoOn → (headers : List (List ℕ)) → (a : About) →
+        ServesIn headers a (died_in (physical_of headers a parts.old) pid outside) parts.old parts.new pid result }
+    ensures leaves { IfOk result (Tells parts.old parts.new pid) }
+    ensures keeps { KeepsMarks parts.old parts.new }
+    ensures unchanged { OnErr result (parts.new ≡ parts.old) }
+{
+    match mode {
+        Mode::Halt => Ok(Served::Stray(access)),
+        Mode::GoOn => {
+            parts.end_by_signal(pid, SIGSEGV)?;
+            Ok(Served::Ended)
+        }
+    }
+}
+
+/// Carries out the system call that a process stands at, which may run, where its accesses are watched in this mode; those go on that wait on a pipe which it
 /// changed. A run of pages that it needs is the chooser's, and the programs that it may run are these. A range beyond its process's own
 /// bytes strays, and nothing is done; one outside memory ends the process by SIGSEGV.
 fn serve_within<F: Fn(&[Run], u32) -> Option<usize>>(
@@ -435,26 +445,18 @@ fn serve_within<F: Fn(&[Run], u32) -> Option<usize>>(
     pid: u32,
     programs: &[Flat],
     chooser: &Chooser<F>,
-    reach: Reach,
+    mode: Mode,
 ) -> Result<Served, AllocError>
     requires chooser { IsChooser F.pre F.post chooser.now }
     requires ready { CanRun parts.old.procs pid }
-    requires strayed { reach ≡ Whole → has_stray parts.old.notes ≡ true }
-    ensures serves { reach ≡ Own → ForRuns (kind_of chooser.now) programs.now (λ a. StillHolds parts.old →
-        Serves a (called (world_of a parts.old) pid) parts.old parts.new pid result) }
-    ensures memory { ForRuns (kind_of chooser.now) programs.now (λ a.
-        InReach reach (headers_of programs.now) a (called_in (physical_of (headers_of programs.now) a parts.old) pid) parts.old parts.new pid result) }
-    ensures holds { reach ≡ Own → HoldsFiles parts.old → HoldsFiles parts.new }
-    ensures stray { (access : Access) → result ≡ Ok (Stray access) → parts.new ≡ parts.old }
+    requires strayed { mode ≡ GoOn → has_stray parts.old.notes ≡ true }
+    ensures comes { ServesWithin mode (kind_of chooser.now) programs.now pid parts.old parts.new result }
+    ensures told { ToldOf pid parts.old parts.new result }
+    ensures keeps { KeepsMarks parts.old parts.new }
     ensures unchanged { OnErr result (parts.new ≡ parts.old) }
-    ensures yields { result ≡ Ok TurnEnds → WaitsAt parts.new.procs pid false }
-    ensures waits { result ≡ Ok Waits → parts.old.files.changed ≡ [] → WaitsAt parts.new.procs pid true }
-    ensures unnoted { result ≡ Ok Waits → parts.new.notes ≡ parts.old.notes }
-    ensures strayed { has_stray parts.new.notes ≡ has_stray parts.old.notes }
-    ensures marks { parts.old.files.changed ≡ [] → parts.new.files.changed ≡ [] }
 {
-    match call_of(parts, pid, reach) {
-        Ok(call) => answer_and_wake(parts, call, programs, chooser, reach),
+    match call_of(parts, pid, mode) {
+        Ok(call) => answer_and_wake(parts, call, programs, chooser, mode),
         Err(Unread::Stray { addr, len }) => {
             let access = Access {
                 pc: parts.procs.get(pid).regs.pc,
@@ -462,13 +464,7 @@ fn serve_within<F: Fn(&[Run], u32) -> Option<usize>>(
                 len,
                 kind: AccessKind::Call,
             };
-            match reach {
-                Reach::Own => Ok(Served::Stray(access)),
-                Reach::Whole => {
-                    parts.end_by_signal(pid, SIGSEGV)?;
-                    Ok(Served::Ended)
-                }
-            }
+            beyond_reach(parts, pid, access, mode)
         }
         Err(Unread::Memory) => Err(AllocError),
     }
@@ -483,29 +479,23 @@ fn serve_whole<F: Fn(&[Run], u32) -> Option<usize>>(
     requires chooser { IsChooser F.pre F.post chooser.now }
     requires ready { CanRun parts.old.kept.procs pid }
     requires strayed { has_stray parts.old.kept.notes ≡ true }
-    ensures programs { parts.new.programs ≡ parts.old.programs }
-    ensures mode { parts.new.mode ≡ parts.old.mode }
-    ensures noted { parts.new.noted ≡ has_stray parts.new.kept.notes }
-    ensures strayed { has_stray parts.new.kept.notes ≡ true }
-    ensures memory { ForRuns (kind_of chooser.now) parts.old.programs (λ a.
-        InReach Whole (headers_of parts.old.programs) a (called_in (physical_of (headers_of parts.old.programs) a parts.old.kept) pid) parts.old.kept parts.new.kept pid result) }
+    ensures keeps { KeepsRun parts.old parts.new }
+    ensures behind { LeavesBehind (kind_of chooser.now) pid parts.old parts.new result }
     ensures unchanged { OnErr result (parts.new ≡ parts.old) }
-    ensures yields { result ≡ Ok TurnEnds → WaitsAt parts.new.kept.procs pid false }
-    ensures waits { result ≡ Ok Waits → WaitsAt parts.new.kept.procs pid true }
-    ensures unnoted { result ≡ Ok Waits → parts.new.kept.notes ≡ parts.old.kept.notes }
+    ensures told { WaitsAsTold pid parts.new.kept result }
 {
-    serve_within(&mut parts.kept, pid, &parts.programs, chooser, Reach::Whole)
+    serve_within(&mut parts.kept, pid, &parts.programs, chooser, Mode::GoOn)
 }
 
-/// What a call may read and write. In a run that ends at its first stray access that is its process's own bytes, whatever was noted;
-/// in one that goes on it is what is reached.
-fn reach_in(mode: Mode, reach: Reach) -> Reach
-    ensures halts { mode ≡ Halt → result ≡ Own }
-    ensures goes_on { mode ≡ GoOn → result ≡ reach }
+/// The mode in which the accesses of a call are watched. In a run that ends at its first stray access that is within its process's own
+/// bytes, whatever was noted; in one that goes on it is the run's of that moment.
+fn call_mode(mode: Mode, watch: Mode) -> Mode
+    ensures halts { mode ≡ Halt → result ≡ Halt }
+    ensures goes_on { mode ≡ GoOn → result ≡ watch }
 {
     match mode {
-        Mode::Halt => Reach::Own,
-        Mode::GoOn => reach,
+        Mode::Halt => Mode::Halt,
+        Mode::GoOn => watch,
     }
 }
 
@@ -520,16 +510,13 @@ pub fn serve<F: Fn(&[Run], u32) -> Option<usize>>(
 ) -> Result<Served, AllocError>
     requires chooser { IsChooser F.pre F.post chooser.now }
     requires ready { CanRun parts.old.kept.procs pid }
-    ensures programs { parts.new.programs ≡ parts.old.programs }
-    ensures mode { parts.new.mode ≡ parts.old.mode }
-    ensures noted { parts.new.noted ≡ has_stray parts.new.kept.notes }
+    ensures keeps { KeepsRun parts.old parts.new }
     ensures halts { parts.old.mode ≡ Halt → HaltServes (kind_of chooser.now) pid parts.old parts.new result }
     ensures goes_on { parts.old.mode ≡ GoOn → GoOnServes (kind_of chooser.now) pid parts.old parts.new result }
     ensures unchanged { OnErr result (parts.new ≡ parts.old) }
-    ensures yields { result ≡ Ok TurnEnds → WaitsAt parts.new.kept.procs pid false }
-    ensures waits { result ≡ Ok Waits → WaitsAt parts.new.kept.procs pid true }
+    ensures told { WaitsAsTold pid parts.new.kept result }
 {
-    let within = reach_in(parts.mode, parts.reach());
+    let within = call_mode(parts.mode, parts.watch_mode());
     let served = serve_within(&mut parts.kept, pid, &parts.programs, chooser, within)?;
     let Served::Stray(access) = served else {
         return Ok(served);

@@ -12,7 +12,8 @@ ghost use Rattle.kept_parts.specs.Reach.{readable};
 
 use call_bytes::{Unread, read_sent};
 use file_calls::Call;
-use kept_parts::{KeptParts, Reach};
+use kept_parts::KeptParts;
+use region_watch::Mode;
 use rv32im_step::Regs;
 
 /// The arguments of the call at which these registers stand.
@@ -24,10 +25,10 @@ fn args_of(regs: &Regs) -> [u32; 6]
     [x[10], x[11], x[12], x[13], x[14], x[15]]
 }
 
-/// The call at which a process stands, with the bytes that it reads within this reach.
-pub fn call_of(parts: &KeptParts, pid: u32, reach: Reach) -> Result<Call, Unread>
+/// The call at which a process stands, with the bytes that it reads, where its accesses are watched in this mode.
+pub fn call_of(parts: &KeptParts, pid: u32, mode: Mode) -> Result<Call, Unread>
     requires lives { Lives parts.now.procs pid }
-    ensures made { (e : Entry Task) → (h : Held) → LivesIn parts.now pid e h → Made (only (readable reach (length parts.now.regions) h) (physical parts.now.mem)) e result }
+    ensures made { (e : Entry Task) → (h : Held) → LivesIn parts.now pid e h → Made (only (readable mode (length parts.now.regions) h) (physical parts.now.mem)) e result }
     ensures pid { IfOk result (λ call. call.pid ≡ pid) }
     ensures args { IfOk result (λ call. slice_index call.args 2 < 2 ^ 32) }
 {
@@ -35,7 +36,7 @@ pub fn call_of(parts: &KeptParts, pid: u32, reach: Reach) -> Result<Call, Unread
     let number = task.regs.x[17];
     let args = args_of(&task.regs);
     let alloc = *parts.console.allocator();
-    let owners = parts.table_of(task.space, reach);
+    let owners = parts.table_of(task.space, mode);
     match read_sent(alloc, &parts.mem, owners, number, &args) {
         Ok(sent) => Ok(Call {
             pid,

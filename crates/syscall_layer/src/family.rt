@@ -16,21 +16,23 @@ ghost use Rattle.kept_parts.specs.Families.{info_of, mark_at};
 ghost use Rattle.kept_parts.specs.Stands.{About, world_of};
 ghost use Rattle.region_watch.specs.Private.{physical};
 ghost use Rattle.memory_world.specs.Physical.{has_stray, carried, reaped_in, waitid_in};
-ghost use Rattle.kept_parts.specs.declared.reach.Reach.TheVariants.{Own, Whole};
-ghost use Rattle.kept_parts.specs.InMemory.{headers_of, physical_of, ServesIn, InReach};
+ghost use Rattle.region_watch.specs.declared.mode.Mode.TheVariants.{GoOn};
+ghost use Rattle.kept_parts.specs.InMemory.{headers_of, physical_of, ServesIn};
 ghost use Rattle.kept_parts.specs.Copies.{HoldsFiles};
 ghost use Rattle.kept_parts.specs.Serves.{Serves, Tells};
 ghost use Rattle.kept_parts.specs.Flats.{ForRuns};
 ghost use Rattle.kept_parts.specs.Calls.{Caller, asked_by};
+ghost use Rattle.syscall_layer.specs.Answers.{Answers};
 
-use crate::answer::{answer_effect, answer_outcome, has_room};
+use crate::answer::{answer_outcome, has_room, refuse};
 use bflt_format::Flat;
 use call_bytes::{at_zero, program_strings};
 use call_log::{Errno, Got, How};
 use file_calls::{Call, Outcome, Then};
-use kept_parts::{Effect, KeptParts, Reach, Served};
+use kept_parts::{KeptParts, Served};
 use mem_files::Tree;
 use page_runs::{Chooser, Run};
+use region_watch::Mode;
 use std::alloc::{AllocError, Global};
 use vfork_exec::{Waited, Who};
 
@@ -125,23 +127,19 @@ fn answer_told(
     call: Call,
     who: Who,
     told: Waited,
-    reach: Reach,
+    mode: Mode,
 ) -> Result<Served, AllocError>
     requires ready { CanRun parts.old.procs call.pid }
-    requires strayed { reach ≡ Whole → has_stray parts.old.notes ≡ true }
+    requires strayed { mode ≡ GoOn → has_stray parts.old.notes ≡ true }
     requires told { looked parts.old.procs call.pid who false ≡ Ok told }
     requires waitid { call.number ≡ numbers.waitid }
-    ensures serves { reach ≡ Own → (a : About) → (c : Caller parts.old call) →
-        Serves a (reaped (world_of a parts.old) (asked_by a c) who (Ok told)) parts.old parts.new call.pid result }
-    ensures memory { (headers : List (List ℕ)) → (a : About) → (c : Caller parts.old call) →
-        InReach reach headers a (reaped_in (physical_of headers a parts.old) (asked_by a c) who (Ok told)) parts.old parts.new call.pid result }
-    ensures holds { reach ≡ Own → HoldsFiles parts.old → HoldsFiles parts.new }
-    ensures leaves { IfOk result (Tells parts.old parts.new call.pid) }
+    ensures { Answers mode call parts.old parts.new (λ a c. reaped (world_of a parts.old) (asked_by a c) who (Ok told))
+        (λ headers a c. reaped_in (physical_of headers a parts.old) (asked_by a c) who (Ok told)) result }
 {
     let alloc = *parts.console.allocator();
     let pid = call.pid;
     let outcome = told_outcome(alloc, call.args[2], told)?;
-    let served = answer_outcome(parts, call, outcome, reach)?;
+    let served = answer_outcome(parts, call, outcome, mode)?;
     if let Served::Replied = served {
         let _ = parts.procs.wait(pid, who, false);
     }
@@ -152,32 +150,28 @@ fn answer_told(
 pub(crate) fn answer_waitid(
     parts: &mut KeptParts,
     call: Call,
-    reach: Reach,
+    mode: Mode,
 ) -> Result<Served, AllocError>
     requires ready { CanRun parts.old.procs call.pid }
-    requires strayed { reach ≡ Whole → has_stray parts.old.notes ≡ true }
+    requires strayed { mode ≡ GoOn → has_stray parts.old.notes ≡ true }
     requires waitid { call.number ≡ numbers.waitid }
-    ensures serves { reach ≡ Own → (a : About) → (c : Caller parts.old call) →
-        Serves a (waitid (world_of a parts.old) (asked_by a c)) parts.old parts.new call.pid result }
-    ensures memory { (headers : List (List ℕ)) → (a : About) → (c : Caller parts.old call) →
-        InReach reach headers a (waitid_in (physical_of headers a parts.old) (asked_by a c)) parts.old parts.new call.pid result }
-    ensures holds { reach ≡ Own → HoldsFiles parts.old → HoldsFiles parts.new }
-    ensures leaves { IfOk result (Tells parts.old parts.new call.pid) }
+    ensures { Answers mode call parts.old parts.new (λ a c. waitid (world_of a parts.old) (asked_by a c))
+        (λ headers a c. waitid_in (physical_of headers a parts.old) (asked_by a c)) result }
 {
     if let Some(errno) = fault_of(&call.args) {
-        return answer_effect(parts, call, Effect::Answer(errno.refusal()));
+        return refuse(parts, call, errno);
     }
     let who = meant(&call.args);
     let may_wait = call.args[3] == EXITED;
     let told = match parts.procs.wait_look(call.pid, who, may_wait) {
         Ok(told) => told,
-        Err(errno) => return answer_effect(parts, call, Effect::Answer(errno.refusal())),
+        Err(errno) => return refuse(parts, call, errno),
     };
     if let Waited::Waits = told {
         let _ = parts.procs.wait(call.pid, who, may_wait);
         return Ok(Served::Waits);
     }
-    answer_told(parts, call, who, told, reach)
+    answer_told(parts, call, who, told, mode)
 }
 
 /// Carries out clone, where the log has room for it.
@@ -190,10 +184,10 @@ pub(crate) fn answer_clone(parts: &mut KeptParts, call: Call) -> Result<Served, 
     ensures leaves { IfOk result (Tells parts.old parts.new call.pid) }
 {
     if call.args[0] != VFORK_FLAGS {
-        return answer_effect(parts, call, Effect::Answer(Errno::Einval.refusal()));
+        return refuse(parts, call, Errno::Einval);
     }
     if parts.procs.full() {
-        return answer_effect(parts, call, Effect::Answer(Errno::Eagain.refusal()));
+        return refuse(parts, call, Errno::Eagain);
     }
     if !has_room(parts, &call) {
         return Ok(Served::LogFull);
@@ -233,18 +227,18 @@ pub(crate) fn answer_exec<F: Fn(&[Run], u32) -> Option<usize>>(
     ensures leaves { IfOk result (Tells parts.old parts.new call.pid) }
 {
     let Some((path, _)) = at_zero(&call.sent) else {
-        return answer_effect(parts, call, Effect::Answer(Errno::Enametoolong.refusal()));
+        return refuse(parts, call, Errno::Enametoolong);
     };
     let alloc = *parts.console.allocator();
     let Some(strings) = program_strings(alloc, &call.sent, call.args[1], call.args[2])? else {
-        return answer_effect(parts, call, Effect::Answer(Errno::E2big.refusal()));
+        return refuse(parts, call, Errno::E2big);
     };
     let index = match program_at(&parts.tree, path) {
         Ok(index) => index,
-        Err(errno) => return answer_effect(parts, call, Effect::Answer(errno.refusal())),
+        Err(errno) => return refuse(parts, call, errno),
     };
     let Some(flat) = programs.get(index as usize) else {
-        return answer_effect(parts, call, Effect::Answer(Errno::Eacces.refusal()));
+        return refuse(parts, call, Errno::Eacces);
     };
     if !has_room(parts, &call) {
         return Ok(Served::LogFull);

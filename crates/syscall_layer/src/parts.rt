@@ -1,24 +1,29 @@
 //! The parts of a run.
 
-ghost use Rattle.std.specs.Prelude.{◌≡◌, ℕ, List, IfOk, OnErr};
+ghost use Rattle.std.specs.Prelude.{◌≡◌, ℕ, List, IfOk, OnErr, true, false, Ok};
 ghost use Rattle.vfork_exec.specs.Procs.{CanRun};
 ghost use Rattle.machine_world.specs.Event.{died};
-ghost use Rattle.memory_world.specs.Physical.{has_stray, died_in};
+ghost use Rattle.memory_world.specs.Physical.{has_stray, died_in, outside};
 ghost use Rattle.kept_parts.specs.Awake.{awake_in};
-ghost use Rattle.kept_parts.specs.InMemory.{DiesIn, physical_of, without_newest};
+ghost use Rattle.kept_parts.specs.declared.served.Served.TheVariants.{Stray};
+ghost use Rattle.kept_parts.specs.InMemory.{DiesIn, ServesIn, physical_of, without_newest};
 ghost use Rattle.kept_parts.specs.Regular.{IsRegular};
 ghost use Rattle.kept_parts.specs.Serves.{Dies, NotesStray};
 ghost use Rattle.kept_parts.specs.Stands.{About, world_of};
 ghost use Rattle.syscall_layer.specs.Events.{TakesParts, GivesParts, KeepsParts};
-ghost use Rattle.syscall_layer.specs.Parts.{halted_at, noted_by};
+ghost use Rattle.syscall_layer.specs.Parts.{KeepsRun, halted_at, noted_by};
 ghost use Rattle.kept_parts.specs.Reach.{is_whole, reach_of};
 
+use crate::answer::beyond_reach;
 use bflt_format::Flat;
-use kept_parts::{KeptParts, Reach, first_stray};
+use kept_parts::{KeptParts, Served, first_stray};
 use region_watch::Mode;
 use rv32im_step::Access;
 use std::alloc::AllocError;
 use std::marker::Model;
+
+/// The signal of an access outside memory.
+pub(crate) const SIGSEGV: u8 = 11;
 
 /// What the events of a run change, and beside it what they are carried out by.
 #[derive(Drop)]
@@ -61,12 +66,13 @@ impl Parts {
         }
     }
 
-    /// What a run that goes on reaches: all of memory behind the note of a stray access.
-    pub fn reach(&self) -> Reach
-        ensures reach { result ≡ reach_of self.now.noted }
+    /// The mode in which a run that goes on watches the accesses of its next event: over all of memory behind the note of a stray access,
+    /// and else within its process's own bytes.
+    pub fn watch_mode(&self) -> Mode
+        ensures mode { result ≡ reach_of self.now.noted }
         ensures strayed { has_stray self.now.kept.notes ≡ is_whole result }
     {
-        if self.noted { Reach::Whole } else { Reach::Own }
+        if self.noted { Mode::GoOn } else { Mode::Halt }
     }
 
     /// Where a run has ended that ends at its first stray access.
@@ -120,6 +126,20 @@ impl Parts {
             self.noted = noted;
         }
         done
+    }
+
+    /// What comes of an event whose access goes beyond reach: up to the first stray access it strays, and nothing is done; behind its note
+    /// it lies outside memory, and ends its process by SIGSEGV. Those go on that wait on a pipe of which an end closes.
+    pub fn beyond_reach(&mut self, pid: u32, access: Access) -> Result<Served, AllocError>
+        requires { CanRun self.old.kept.procs pid }
+        ensures keeps { KeepsRun self.old self.new }
+        ensures strays { has_stray self.old.kept.notes ≡ false → (result ≡ Ok (Stray access)) × (self.new ≡ self.old) }
+        ensures memory { has_stray self.old.kept.notes ≡ true → (headers : List (List ℕ)) → (a : About) →
+            ServesIn headers a (died_in (physical_of headers a self.old.kept) pid outside) self.old.kept self.new.kept pid result }
+        ensures unchanged { OnErr result (self.new ≡ self.old) }
+    {
+        let mode = self.watch_mode();
+        beyond_reach(&mut self.kept, pid, access, mode)
     }
 
     /// Ends a process by a signal: its own space goes, and a note is kept. Those go on that wait on a pipe of which an end closes.

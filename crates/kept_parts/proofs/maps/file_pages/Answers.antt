@@ -17,6 +17,6 @@ pub returns-clause-bytes : goal.returns-clause-bytes
 unfolding file_pages
 returns-clause-bytes c =
     let front = c.extend_from_slice.new.self in
-    let all : front.items ≡ c.front_of.result.now = c.in_ok-extend_from_slice.ensures.items ∙ ap (λ (l : List ℕ). l ++ c.front_of.result.now) c.in_ok-made.ensures.items in
+    let all : front.items ≡ c.page_bytes.result.now = c.in_ok-extend_from_slice.ensures.items ∙ ap (λ (l : List ℕ). l ++ c.page_bytes.result.now) c.in_ok-made.ensures.items in
     let wide : c.from.result * c.from-2.result ≡ 4096 * c.args.pages = search rules in
-    filled _ front.items (drop (4096 * c.args.first) c.args.bytes.now) (4096 * c.args.pages) _ _ (all ∙ c.front_of.ensures) wide front.ok.0 c.in_ok-resize.ensures.items
+    filled _ front.items (drop (4096 * c.args.first) c.args.bytes.now) (4096 * c.args.pages) _ _ (all ∙ c.page_bytes.ensures) wide front.ok.0 c.in_ok-resize.ensures.items

@@ -66,49 +66,121 @@ module _ (g : Over) (c : goal.After-answer_map g) where
 
 -- ---- in the world of private spaces
 
-pub returns-in-Exit-clause-serves : goal.returns-in-Exit-clause-serves
-returns-in-Exit-clause-serves g c = λ own a kind flats holding caller.
-    exit_classed a c.args.parts.now caller.entry caller.held c.args.call caller.runs caller.stands c.answer_exit.new.parts c.answer_exit.result (exits g c) (c.answer_exit.ensures.serves a caller)
+pub returns-in-Exit-clause-answers : goal.returns-in-Exit-clause-answers
+returns-in-Exit-clause-answers g c = record {
+  serves = λ own a kind flats holding caller.
+      exit_classed a c.args.parts.now caller.entry caller.held c.args.call caller.runs caller.stands c.answer_exit.new.parts c.answer_exit.result (exits g c) (c.answer_exit.ensures.serves a caller);
+  memory = λ a kind flats caller.
+      exit_reach (headers_of c.args.programs.now) a c.args.parts.now caller.entry caller.held c.args.call caller.stands c.args.mode c.answer_exit.new.parts c.answer_exit.result
+      (exits g c) c.answer_exit.ensures.memory (c.answer_exit.ensures.serves a caller);
+  holds = λ own. c.answer_exit.ensures.holds;
+}
 
-pub returns-in-Some-clause-serves : goal.returns-in-Some-clause-serves
-returns-in-Some-clause-serves g c = λ own a kind flats holding caller.
-    let k = c.args.parts.now in
-    let call = c.args.call in
-    let files = files_in a k caller.entry caller.held call (ap (λ (x : Kept). x.files) (sym c.parts.view_is)) in
-    let waits = subst (WaitsOn (row (asked_by a caller))) c.in-Some.is (c.wait_of.ensures (asked_by a caller) (made_by a k caller.entry caller.held call caller.runs caller.stands) files) in
-    wait_classed a k caller.entry caller.held call caller.runs caller.stands c.answer_wait.new.parts (Ok c.answer_wait.result) c.in-Some.pipe (ap is_exit caller.stands.number ∙ wait_goes (asked_by a caller) c.in-Some.pipe waits) waits (c.answer_wait.ensures.waits a caller)
+pub returns-in-Some-clause-answers : goal.returns-in-Some-clause-answers
+returns-in-Some-clause-answers g c = record {
+  serves = λ own a kind flats holding caller.
+      let k = c.args.parts.now in
+      let call = c.args.call in
+      let files = files_in a k caller.entry caller.held call (ap (λ (x : Kept). x.files) (sym c.parts.view_is)) in
+      let waits = subst (WaitsOn (row (asked_by a caller))) c.in-Some.is (c.wait_of.ensures (asked_by a caller) (made_by a k caller.entry caller.held call caller.runs caller.stands) files) in
+      wait_classed a k caller.entry caller.held call caller.runs caller.stands c.answer_wait.new.parts (Ok c.answer_wait.result) c.in-Some.pipe (ap is_exit caller.stands.number ∙ wait_goes (asked_by a caller) c.in-Some.pipe waits) waits (c.answer_wait.ensures.waits a caller);
+  memory = λ a kind flats caller.
+      let k = c.args.parts.now in
+      let call = c.args.call in
+      let files = files_in a k caller.entry caller.held call (ap (λ (x : Kept). x.files) (sym c.parts.view_is)) in
+      let waits = subst (WaitsOn (row (asked_by a caller))) c.in-Some.is (c.wait_of.ensures (asked_by a caller) (made_by a k caller.entry caller.held call caller.runs caller.stands) files) in
+      wait_reach (headers_of c.args.programs.now) a k caller.entry caller.held call caller.stands c.args.mode c.answer_wait.new.parts c.answer_wait.result c.in-Some.pipe
+      (ap is_exit caller.stands.number ∙ wait_goes (asked_by a caller) c.in-Some.pipe waits) waits c.answer_wait.ensures.memory (c.answer_wait.ensures.waits a caller);
+  holds = λ own. c.answer_wait.ensures.holds;
+}
 
-pub returns-in-Change-clause-serves : goal.returns-in-Change-clause-serves
-returns-in-Change-clause-serves g c = λ own a kind flats holding caller.
-    row_classed a c.args.parts.now caller.entry caller.held c.args.call caller.runs caller.stands c.answer_change.new.parts c.answer_change.result
-    (is_change_row g c) (c.answer_change.ensures.serves a caller)
+pub returns-in-Change-clause-answers : goal.returns-in-Change-clause-answers
+returns-in-Change-clause-answers g c = record {
+  serves = λ own a kind flats holding caller.
+      row_classed a c.args.parts.now caller.entry caller.held c.args.call caller.runs caller.stands c.answer_change.new.parts c.answer_change.result
+      (is_change_row g c) (c.answer_change.ensures.serves a caller);
+  memory = λ a kind flats caller.
+      let k = c.args.parts.now in
+      let call = c.args.call in
+      mute_reach (headers_of c.args.programs.now) a k caller.entry caller.held call caller.stands c.args.mode c.answer_change.new.parts c.answer_change.result
+      (is_change_row g c) (mute_row (asked_by a caller) (ap is_change (sym caller.stands.number) ∙ change g c))
+      c.answer_change.ensures.memory (c.answer_change.ensures.serves a caller);
+  holds = λ own. c.answer_change.ensures.holds;
+}
 
-pub returns-in-Output-clause-serves : goal.returns-in-Output-clause-serves
-returns-in-Output-clause-serves g c = λ own a kind flats holding caller.
-    row_classed a c.args.parts.now caller.entry caller.held c.args.call caller.runs caller.stands c.answer_output.new.parts c.answer_output.result
-    (is_output_row g c) (c.answer_output.ensures.serves own a caller)
+pub returns-in-Output-clause-answers : goal.returns-in-Output-clause-answers
+returns-in-Output-clause-answers g c = record {
+  serves = λ own a kind flats holding caller.
+      row_classed a c.args.parts.now caller.entry caller.held c.args.call caller.runs caller.stands c.answer_output.new.parts c.answer_output.result
+      (is_output_row g c) (c.answer_output.ensures.serves own a caller);
+  memory = λ a kind flats caller.
+      row_reach (headers_of c.args.programs.now) a c.args.parts.now caller.entry caller.held c.args.call caller.stands c.args.mode c.answer_output.new.parts c.answer_output.result
+      (is_output_row g c)
+      (c.answer_output.ensures.memory (headers_of c.args.programs.now) a caller);
+  holds = c.answer_output.ensures.holds;
+}
 
-pub returns-in-Waitid-clause-serves : goal.returns-in-Waitid-clause-serves
-returns-in-Waitid-clause-serves g c = λ own a kind flats holding caller.
-    waitid_classed a c.args.parts.now caller.entry caller.held c.args.call caller.runs caller.stands c.answer_waitid.new.parts c.answer_waitid.result (is_waitid g c) (c.answer_waitid.ensures.serves own a caller)
+pub returns-in-Waitid-clause-answers : goal.returns-in-Waitid-clause-answers
+returns-in-Waitid-clause-answers g c = record {
+  serves = λ own a kind flats holding caller.
+      waitid_classed a c.args.parts.now caller.entry caller.held c.args.call caller.runs caller.stands c.answer_waitid.new.parts c.answer_waitid.result (is_waitid g c) (c.answer_waitid.ensures.serves own a caller);
+  memory = λ a kind flats caller.
+      waitid_reach (headers_of c.args.programs.now) a c.args.parts.now caller.entry caller.held c.args.call caller.stands c.args.mode c.answer_waitid.new.parts c.answer_waitid.result (is_waitid g c)
+      (c.answer_waitid.ensures.memory (headers_of c.args.programs.now) a caller);
+  holds = c.answer_waitid.ensures.holds;
+}
 
-pub returns-in-Munmap-clause-serves : goal.returns-in-Munmap-clause-serves
-returns-in-Munmap-clause-serves g c = λ own a kind flats holding caller.
-    row_classed a c.args.parts.now caller.entry caller.held c.args.call caller.runs caller.stands c.answer_unmap.new.parts c.answer_unmap.result
-    (is_munmap_row g c) (c.answer_unmap.ensures.serves a caller)
+pub returns-in-Munmap-clause-answers : goal.returns-in-Munmap-clause-answers
+returns-in-Munmap-clause-answers g c = record {
+  serves = λ own a kind flats holding caller.
+      row_classed a c.args.parts.now caller.entry caller.held c.args.call caller.runs caller.stands c.answer_unmap.new.parts c.answer_unmap.result
+      (is_munmap_row g c) (c.answer_unmap.ensures.serves a caller);
+  memory = λ a kind flats caller.
+      let k = c.args.parts.now in
+      let call = c.args.call in
+      let ask : Ask = asked_by a caller in
+      mute_reach (headers_of c.args.programs.now) a k caller.entry caller.held call caller.stands c.args.mode c.answer_unmap.new.parts c.answer_unmap.result
+      (is_munmap_row g c)
+      (quiet_mute (row ask) (quiet_munmap call ask (made_by a k caller.entry caller.held call caller.runs caller.stands) (is_munmap g c)))
+      c.answer_unmap.ensures.memory (c.answer_unmap.ensures.serves a caller);
+  holds = λ own. c.answer_unmap.ensures.holds;
+}
 
-pub returns-in-Clone-clause-serves : goal.returns-in-Clone-clause-serves
-returns-in-Clone-clause-serves g c = λ own a kind flats holding caller.
-    clone_classed a c.args.parts.now caller.entry caller.held c.args.call caller.runs caller.stands c.answer_clone.new.parts c.answer_clone.result (is_clone g c) (c.answer_clone.ensures.serves a caller)
+pub returns-in-Clone-clause-answers : goal.returns-in-Clone-clause-answers
+returns-in-Clone-clause-answers g c = record {
+  serves = λ own a kind flats holding caller.
+      clone_classed a c.args.parts.now caller.entry caller.held c.args.call caller.runs caller.stands c.answer_clone.new.parts c.answer_clone.result (is_clone g c) (c.answer_clone.ensures.serves a caller);
+  memory = λ a kind flats caller.
+      clone_reach (headers_of c.args.programs.now) a c.args.parts.now caller.entry caller.held c.args.call caller.stands c.args.mode c.answer_clone.new.parts c.answer_clone.result (is_clone g c)
+      c.answer_clone.ensures.memory (c.answer_clone.ensures.serves a caller);
+  holds = λ own. c.answer_clone.ensures.holds;
+}
 
-pub returns-in-Execve-clause-serves : goal.returns-in-Execve-clause-serves
-returns-in-Execve-clause-serves g c = λ own a kind flats holding caller.
-    exec_classed a c.args.parts.now caller.entry caller.held c.args.call caller.runs caller.stands c.answer_exec.new.parts c.answer_exec.result (is_execve g c) (c.answer_exec.ensures.serves a kind flats caller)
+pub returns-in-Execve-clause-answers : goal.returns-in-Execve-clause-answers
+returns-in-Execve-clause-answers g c = record {
+  serves = λ own a kind flats holding caller.
+      exec_classed a c.args.parts.now caller.entry caller.held c.args.call caller.runs caller.stands c.answer_exec.new.parts c.answer_exec.result (is_execve g c) (c.answer_exec.ensures.serves a kind flats caller);
+  memory = λ a kind flats caller.
+      exec_reach (headers_of c.args.programs.now) a c.args.parts.now caller.entry caller.held c.args.call caller.stands c.args.mode c.answer_exec.new.parts c.answer_exec.result (is_execve g c)
+      (c.answer_exec.ensures.memory a kind flats caller);
+  holds = λ own. c.answer_exec.ensures.holds;
+}
 
-pub returns-in-Mmap2-clause-serves : goal.returns-in-Mmap2-clause-serves
-returns-in-Mmap2-clause-serves g c = λ own a kind flats holding caller.
-    row_classed a c.args.parts.now caller.entry caller.held c.args.call caller.runs caller.stands c.answer_map.new.parts c.answer_map.result
-    (is_mmap2_row g c) (c.answer_map.ensures.serves a kind holding caller)
+pub returns-in-Mmap2-clause-answers : goal.returns-in-Mmap2-clause-answers
+returns-in-Mmap2-clause-answers g c = record {
+  serves = λ own a kind flats holding caller.
+      row_classed a c.args.parts.now caller.entry caller.held c.args.call caller.runs caller.stands c.answer_map.new.parts c.answer_map.result
+      (is_mmap2_row g c) (c.answer_map.ensures.serves a kind holding caller);
+  memory = λ a kind flats caller.
+      let k = c.args.parts.now in
+      let call = c.args.call in
+      let ask : Ask = asked_by a caller in
+      carried_reach (headers_of c.args.programs.now) a k caller.entry caller.held call caller.stands c.args.mode c.answer_map.new.parts c.answer_map.result
+      (is_mmap2_row g c)
+      (quiet_mute (row ask) (quiet_mmap2 call ask (made_by a k caller.entry caller.held call caller.runs caller.stands) (is_mmap2 g c)))
+      (c.answer_map.ensures.memory (headers_of c.args.programs.now) a kind caller);
+  holds = λ own. c.answer_map.ensures.holds;
+}
 
 -- ---- a call that touches neither files nor memory
 
@@ -125,79 +197,17 @@ module _ (g : Over) (c : goal.After-answer_effect g) where
       c.effect_of-effect.ensures (asked_by a caller) (made_by a k caller.entry caller.held call caller.runs caller.stands)
       (files_in a k caller.entry caller.held call (ap (λ (x : Kept). x.files) (sym c.parts.view_is)))
 
-pub returns-in-Effect-clause-serves : goal.returns-in-Effect-clause-serves
-returns-in-Effect-clause-serves g c = λ own a kind flats holding caller.
-    effect_classed a c.args.parts.now caller.entry caller.held c.args.call caller.runs caller.stands c.answer_effect.new.parts c.answer_effect.result c.effect_of-effect.result (plain g c) (rows g c a caller) (c.answer_effect.ensures.serves a caller)
+pub returns-in-Effect-clause-answers : goal.returns-in-Effect-clause-answers
+returns-in-Effect-clause-answers g c = record {
+  serves = λ own a kind flats holding caller.
+      effect_classed a c.args.parts.now caller.entry caller.held c.args.call caller.runs caller.stands c.answer_effect.new.parts c.answer_effect.result c.effect_of-effect.result (plain g c) (rows g c a caller) (c.answer_effect.ensures.serves a caller);
+  memory = λ a kind flats caller.
+      effect_reach (headers_of c.args.programs.now) a c.args.parts.now caller.entry caller.held c.args.call caller.stands c.args.mode c.answer_effect.new.parts c.answer_effect.result c.effect_of-effect.result
+      (plain g c) (rows g c a caller) c.answer_effect.ensures.memory (c.answer_effect.ensures.serves a caller);
+  holds = λ own. c.answer_effect.ensures.holds;
+}
 
 -- ---- in the one memory
-
-pub returns-in-Exit-clause-memory : goal.returns-in-Exit-clause-memory
-returns-in-Exit-clause-memory g c = λ a kind flats caller.
-    exit_reach (headers_of c.args.programs.now) a c.args.parts.now caller.entry caller.held c.args.call caller.stands c.args.reach c.answer_exit.new.parts c.answer_exit.result
-    (exits g c) c.answer_exit.ensures.memory (c.answer_exit.ensures.serves a caller)
-
-pub returns-in-Some-clause-memory : goal.returns-in-Some-clause-memory
-returns-in-Some-clause-memory g c = λ a kind flats caller.
-    let k = c.args.parts.now in
-    let call = c.args.call in
-    let files = files_in a k caller.entry caller.held call (ap (λ (x : Kept). x.files) (sym c.parts.view_is)) in
-    let waits = subst (WaitsOn (row (asked_by a caller))) c.in-Some.is (c.wait_of.ensures (asked_by a caller) (made_by a k caller.entry caller.held call caller.runs caller.stands) files) in
-    wait_reach (headers_of c.args.programs.now) a k caller.entry caller.held call caller.stands c.args.reach c.answer_wait.new.parts c.answer_wait.result c.in-Some.pipe
-    (ap is_exit caller.stands.number ∙ wait_goes (asked_by a caller) c.in-Some.pipe waits) waits c.answer_wait.ensures.memory (c.answer_wait.ensures.waits a caller)
-
-pub returns-in-Change-clause-memory : goal.returns-in-Change-clause-memory
-returns-in-Change-clause-memory g c = λ a kind flats caller.
-    let k = c.args.parts.now in
-    let call = c.args.call in
-    mute_reach (headers_of c.args.programs.now) a k caller.entry caller.held call caller.stands c.args.reach c.answer_change.new.parts c.answer_change.result
-    (is_change_row g c) (mute_row (asked_by a caller) (ap is_change (sym caller.stands.number) ∙ change g c))
-    c.answer_change.ensures.memory (c.answer_change.ensures.serves a caller)
-
-pub returns-in-Output-clause-memory : goal.returns-in-Output-clause-memory
-returns-in-Output-clause-memory g c = λ a kind flats caller.
-    row_reach (headers_of c.args.programs.now) a c.args.parts.now caller.entry caller.held c.args.call caller.stands c.args.reach c.answer_output.new.parts c.answer_output.result
-    (is_output_row g c)
-    (c.answer_output.ensures.memory (headers_of c.args.programs.now) a caller)
-
-pub returns-in-Waitid-clause-memory : goal.returns-in-Waitid-clause-memory
-returns-in-Waitid-clause-memory g c = λ a kind flats caller.
-    waitid_reach (headers_of c.args.programs.now) a c.args.parts.now caller.entry caller.held c.args.call caller.stands c.args.reach c.answer_waitid.new.parts c.answer_waitid.result (is_waitid g c)
-    (c.answer_waitid.ensures.memory (headers_of c.args.programs.now) a caller)
-
-pub returns-in-Munmap-clause-memory : goal.returns-in-Munmap-clause-memory
-returns-in-Munmap-clause-memory g c = λ a kind flats caller.
-    let k = c.args.parts.now in
-    let call = c.args.call in
-    let ask : Ask = asked_by a caller in
-    mute_reach (headers_of c.args.programs.now) a k caller.entry caller.held call caller.stands c.args.reach c.answer_unmap.new.parts c.answer_unmap.result
-    (is_munmap_row g c)
-    (quiet_mute (row ask) (quiet_munmap call ask (made_by a k caller.entry caller.held call caller.runs caller.stands) (is_munmap g c)))
-    c.answer_unmap.ensures.memory (c.answer_unmap.ensures.serves a caller)
-
-pub returns-in-Clone-clause-memory : goal.returns-in-Clone-clause-memory
-returns-in-Clone-clause-memory g c = λ a kind flats caller.
-    clone_reach (headers_of c.args.programs.now) a c.args.parts.now caller.entry caller.held c.args.call caller.stands c.args.reach c.answer_clone.new.parts c.answer_clone.result (is_clone g c)
-    c.answer_clone.ensures.memory (c.answer_clone.ensures.serves a caller)
-
-pub returns-in-Execve-clause-memory : goal.returns-in-Execve-clause-memory
-returns-in-Execve-clause-memory g c = λ a kind flats caller.
-    exec_reach (headers_of c.args.programs.now) a c.args.parts.now caller.entry caller.held c.args.call caller.stands c.args.reach c.answer_exec.new.parts c.answer_exec.result (is_execve g c)
-    (c.answer_exec.ensures.memory a kind flats caller)
-
-pub returns-in-Mmap2-clause-memory : goal.returns-in-Mmap2-clause-memory
-returns-in-Mmap2-clause-memory g c = λ a kind flats caller.
-    let k = c.args.parts.now in
-    let call = c.args.call in
-    let ask : Ask = asked_by a caller in
-    carried_reach (headers_of c.args.programs.now) a k caller.entry caller.held call caller.stands c.args.reach c.answer_map.new.parts c.answer_map.result
-    (is_mmap2_row g c)
-    (quiet_mute (row ask) (quiet_mmap2 call ask (made_by a k caller.entry caller.held call caller.runs caller.stands) (is_mmap2 g c)))
-    (c.answer_map.ensures.memory (headers_of c.args.programs.now) a kind caller)
-
-pub returns-in-Effect-clause-memory : goal.returns-in-Effect-clause-memory
-returns-in-Effect-clause-memory g c = λ a kind flats caller.
-    effect_reach (headers_of c.args.programs.now) a c.args.parts.now caller.entry caller.held c.args.call caller.stands c.args.reach c.answer_effect.new.parts c.answer_effect.result c.effect_of-effect.result
-    (plain g c) (rows g c a caller) c.answer_effect.ensures.memory (c.answer_effect.ensures.serves a caller)
 
 -- ---- what each answer leaves
 

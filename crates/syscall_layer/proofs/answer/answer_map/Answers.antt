@@ -2,8 +2,10 @@
 use Rattle.std.proofs.Common.{◌≡◌, refl, sym, ap, subst, ◌∙◌}
 use Rattle.std.specs.Prelude.{Result}
 use Rattle.call_log.specs.declared.errno.Errno.{Errno}
+use Rattle.call_log.specs.Errno.{refusal}
 use Rattle.region_watch.specs.Private.{physical}
 use Rattle.mmap_rules.specs.declared.want.Want.{Want}
+use Rattle.mmap_rules.specs.Copies.{IsKnown}
 use Rattle.machine_world.specs.Asks.{Row, answers, with_ok}
 use Rattle.machine_world.specs.MapCalls.{mapped}
 use Rattle.machine_world.specs.Event.{answered}
@@ -15,7 +17,6 @@ use Rattle.kept_parts.specs.Stands.{About, world_of}
 use Rattle.kept_parts.specs.Serves.{Serves}
 use Rattle.kept_parts.specs.InMemory.{physical_of, ServesIn}
 use Rattle.kept_parts.specs.Calls.{Caller, asked_by}
-use Rattle.kept_parts.proofs.Recorded.{refusal_plain}
 use Rattle.syscall_layer.proofs.MapRows.{row_mmap2, asked_want}
 use Rattle.kept_parts.proofs.Outcomes.{made_by, tree_in, files_in}
 use Rattle.kept_parts.proofs.PlainMemory.{answered_never, plain_in}
@@ -55,31 +56,30 @@ returns-in-Err-clause-serves g c = λ a kind holding caller.
     let k = c.args.parts.now in
     let call = c.args.call in
     let ask = asked_by a caller in
-    let rows = rows_are g (goal.at.returns-in-Err-clause-serves g c).After-want_of a caller ∙ ap (λ (found : Result Want Errno). with_ok ask found (mapped ask)) c.in-Err.is
-    ∙ ap (answers ask) (sym c.refusal.ensures) in
-    subst (λ (r : Row). Serves a (answered (world_of a k) ask r) k c.answer_effect.new.parts call.pid c.answer_effect.result) (sym rows) (c.answer_effect.ensures.serves a caller)
+    let rows = rows_are g (goal.at.returns-in-Err-clause-serves g c).After-want_of a caller ∙ ap (λ (found : Result Want Errno). with_ok ask found (mapped ask)) c.in-Err.is in
+    subst (λ (r : Row). Serves a (answered (world_of a k) ask r) k c.refuse.new.parts call.pid c.refuse.result) (sym rows) (c.refuse.ensures.serves a caller)
 
 pub returns-in-Err-clause-memory : goal.returns-in-Err-clause-memory
 returns-in-Err-clause-memory g c = λ headers a kind caller.
     let k = c.args.parts.now in
     let call = c.args.call in
     let ask = asked_by a caller in
-    let new = c.answer_effect.new.parts in
-    let result = c.answer_effect.result in
-    let rows = rows_are g (goal.at.returns-in-Err-clause-memory g c).After-want_of a caller ∙ ap (λ (found : Result Want Errno). with_ok ask found (mapped ask)) c.in-Err.is
-    ∙ ap (answers ask) (sym c.refusal.ensures) in
+    let new = c.refuse.new.parts in
+    let result = c.refuse.result in
+    let rows = rows_are g (goal.at.returns-in-Err-clause-memory g c).After-want_of a caller ∙ ap (λ (found : Result Want Errno). with_ok ask found (mapped ask)) c.in-Err.is in
     subst (λ (r : Row). ServesIn headers a (carried (physical_of headers a k) (physical k.mem) (answered (world_of a k) ask r)) k new call.pid result) (sym rows)
-    (plain_in headers a k new c.answer_effect.ensures.memory call.pid (answered (world_of a k) ask (answers ask c.refusal.result)) result (c.answer_effect.ensures.serves a caller)
-    (answered_begins (world_of a k) ask (answers ask c.refusal.result)) (answered_never (world_of a k) ask (answers ask c.refusal.result) refl))
+    (plain_in headers a k new c.refuse.ensures.memory call.pid (answered (world_of a k) ask (answers ask (refusal c.in-Err.errno))) result (c.refuse.ensures.serves a caller)
+    (answered_begins (world_of a k) ask (answers ask (refusal c.in-Err.errno))) (answered_never (world_of a k) ask (answers ask (refusal c.in-Err.errno)) refl))
 
 pub returns-in-Ok-clause-leaves : goal.returns-in-Ok-clause-leaves
 returns-in-Ok-clause-leaves g c = λ ready. c.answer_want.ensures.leaves
 
 pub returns-in-Err-clause-leaves : goal.returns-in-Err-clause-leaves
-returns-in-Err-clause-leaves g c = c.answer_effect.ensures.leaves
+returns-in-Err-clause-leaves g c = c.refuse.ensures.leaves
 
-pub answer_want-requires-clause-asked : goal.answer_want-requires-clause-asked
-answer_want-requires-clause-asked g c = asked_want c.args.call c.requires.mmap2 _ c.in-Ok.want (sym c.in-Ok.is ∙ c.want_of.ensures.wanted)
-
-pub answer_effect-requires-clause-plain : goal.answer_effect-requires-clause-plain
-answer_effect-requires-clause-plain g c = refusal_plain c.args.call c.in-Err.errno c.refusal.result c.refusal.ensures
+pub answer_want-requires-clause-wanted : goal.answer_want-requires-clause-wanted
+answer_want-requires-clause-wanted g c = record {
+  known = subst (λ (k : Kept). IsKnown k.tree c.in-Ok.want) c.parts.view_is c.in-Ok.ensures.known;
+  pages = c.in-Ok.ensures.pages;
+  asked = asked_want c.args.call c.requires.mmap2 _ c.in-Ok.want (sym c.in-Ok.is ∙ c.want_of.ensures.wanted);
+}

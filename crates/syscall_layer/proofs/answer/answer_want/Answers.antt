@@ -42,20 +42,20 @@ map-requires-clause-brings g c = λ a kind caller r rows. sym (c.has_room_to_map
 pub returns-in_err-map-clause-serves : goal.returns-in_err-map-clause-serves
 returns-in_err-map-clause-serves g c = λ a kind holding caller.
     let p = err_from_is_err_and c.from_residual.result c.from_residual.ensures.1 in
-    rw p.1 (c.in_err-map.ensures.changes a kind holding caller)
+    rw p.1 (c.in_err-map.ensures.leaves.changes a kind holding caller)
 
 pub returns-in_err-map-clause-memory : goal.returns-in_err-map-clause-memory
 returns-in_err-map-clause-memory g c = λ headers a kind caller.
     let p = err_from_is_err_and c.from_residual.result c.from_residual.ensures.1 in
-    rw p.1 (c.in_err-map.ensures.memory headers a kind caller)
+    rw p.1 (c.in_err-map.ensures.leaves.memory headers a kind caller)
 
 pub returns-clause-serves : goal.returns-clause-serves
 returns-clause-serves g c = λ a kind holding caller.
     let k = c.args.parts.now in
     let call = c.args.call in
-    change_serves a k caller.entry caller.held call caller.runs caller.stands _ c.map.new.self (c.in_ok-map.ensures.changes a kind holding caller)
+    change_serves a k caller.entry caller.held call caller.runs caller.stands _ c.map.new.self (c.in_ok-map.ensures.leaves.changes a kind holding caller)
     (λ r rows. sym (c.has_room_to_map.ensures.room a caller r rows) ∙ c.if-not-has_room_to_map.false)
 
 pub returns-clause-memory : goal.returns-clause-memory
 returns-clause-memory g c = λ headers a kind caller.
-    changed_goes headers a _ c.args.parts.now c.map.new.self c.args.call.pid (c.in_ok-map.ensures.memory headers a kind caller) c.in_ok-map.ensures.lives
+    changed_goes headers a _ c.args.parts.now c.map.new.self c.args.call.pid (c.in_ok-map.ensures.leaves.memory headers a kind caller) c.in_ok-map.ensures.lives

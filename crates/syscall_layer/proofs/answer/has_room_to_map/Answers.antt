@@ -25,7 +25,7 @@ returns-clause-room c = λ a caller reply rows.
     let regular = subst Regular c.parts.view_is c.parts.invariant.0.0 in
     room_is (goal.at.returns-clause-room c).After-room
     ∙ ap (λ n. room_beside k (n + length call.sent.items)) (c.recorded_len.ensures a caller.entry caller.held caller.runs)
-    ∙ sym (room_mapped a k regular caller.entry caller.held call caller.runs caller.stands c.args.want c.requires.pages c.requires.known c.requires.asked reply rows)
+    ∙ sym (room_mapped a k regular caller.entry caller.held call caller.runs caller.stands c.args.want c.requires.wanted.pages c.requires.wanted.known c.requires.wanted.asked reply rows)
 
 pub returns-clause-alone : goal.returns-clause-alone
 returns-clause-alone c = λ has.

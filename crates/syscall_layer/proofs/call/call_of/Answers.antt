@@ -21,7 +21,7 @@ read_sent-requires c =
     let each = rw (← c.parts.view_is) at c.table_of-owners.ensures in
     let lives = subst (λ (s : Kept). Lives s.procs c.args.pid) (sym c.parts.view_is) c.requires.lives in
     let live = has_space k c.args.pid c.get-task.result.now c.parts.invariant.0.0 lives c.get-task.ensures in
-    record { memory = reached_pages c.args.reach k live.held c.table_of-owners.result.now c.parts.invariant.0.0 (each live.held live.there) }
+    record { memory = reached_pages c.args.mode k live.held c.table_of-owners.result.now c.parts.invariant.0.0 (each live.held live.there) }
 
 pub returns-in-Ok-clause-made : goal.returns-in-Ok-clause-made
 returns-in-Ok-clause-made c = λ e h runs.
@@ -39,9 +39,9 @@ returns-in-Ok-clause-made c = λ e h runs.
       sent = c.in-Ok.sent;
     } in
     subst (λ (now : Kept). LivesIn now c.args.pid e h → IsCall e from
-    × (sent (number_of e.value.regs) (args_of e.value.regs) (only (readable c.args.reach (length now.regions) h) (physical now.mem)) ≡ Ok c.in-Ok.sent.items)) c.parts.view_is
+    × (sent (number_of e.value.regs) (args_of e.value.regs) (only (readable c.args.mode (length now.regions) h) (physical now.mem)) ≡ Ok c.in-Ok.sent.items)) c.parts.view_is
     (λ r.
-    let bytes = reached_bytes c.args.reach (length k.regions) h table k.mem (each h (home_at k c.args.pid e h r t c.get-task.ensures)) in
+    let bytes = reached_bytes c.args.mode (length k.regions) h table k.mem (each h (home_at k c.args.pid e h r t c.get-task.ensures)) in
     let read : sent (slice_index t.regs.x 17) args (own_bytes table k.mem) ≡ Ok c.in-Ok.sent.items = c.in-Ok.ensures in (
       call_is k c.args.pid e h r t c.get-task.ensures args c.args_of-args.ensures c.parent.result c.parent.ensures c.in-Ok.sent,
       sent_is k c.args.pid e h r t c.get-task.ensures args c.args_of-args.ensures _ _ bytes ∙ read,
@@ -55,8 +55,8 @@ returns-in-Err-clause-made c = λ e h runs.
     let args = c.args_of-args.result in
     let table : List PageOwner = c.table_of-owners.result.now in
     let each = rw (← c.parts.view_is) at c.table_of-owners.ensures in
-    subst (λ (now : Kept). LivesIn now c.args.pid e h → Made (only (readable c.args.reach (length now.regions) h) (physical now.mem)) e (Err c.in-Err.unread)) c.parts.view_is
+    subst (λ (now : Kept). LivesIn now c.args.pid e h → Made (only (readable c.args.mode (length now.regions) h) (physical now.mem)) e (Err c.in-Err.unread)) c.parts.view_is
     (λ r.
-    let bytes = reached_bytes c.args.reach (length k.regions) h table k.mem (each h (home_at k c.args.pid e h r t c.get-task.ensures)) in
+    let bytes = reached_bytes c.args.mode (length k.regions) h table k.mem (each h (home_at k c.args.pid e h r t c.get-task.ensures)) in
     unread_is k c.args.pid e h r t c.get-task.ensures args c.args_of-args.ensures _ _ bytes c.in-Err.unread c.in-Err.ensures)
     runs

@@ -1,6 +1,7 @@
 -- A child more, or why there is none.
-use Rattle.std.proofs.Common.{sym, ap, subst, ◌∙◌}
+use Rattle.std.proofs.Common.{refl, sym, ap, subst, ◌∙◌}
 use Rattle.vfork_exec.specs.Procs.{most_entries, count}
+use Rattle.call_log.specs.Errno.{refusal}
 use Rattle.std.specs.Prelude.{nat_le}
 use Rattle.kept_parts.specs.Kept.{Kept}
 use Rattle.kept_parts.specs.Regular.{IsRegular}
@@ -8,20 +9,19 @@ use Rattle.kept_parts.proofs.Forks.{flags_serve, full_serves, fork_has_no_room, 
 use Rattle.kept_parts.proofs.Runs.{runs_in}
 use Rattle.kept_parts.proofs.Families.{can_run_lives}
 use Rattle.call_log.specs.declared.errno.Errno.TheVariants.{Eagain, Einval}
-use Rattle.kept_parts.proofs.Recorded.{refusal_plain}
 use Rattle.syscall_layer.proofs.Leaves.{fork_leaves}
 use Rattle.syscall_layer.proofs.family.answer_clone.Goals as goal
 
 pub returns-then-call-ne-VFORK_FLAGS-clause-serves : goal.returns-then-call-ne-VFORK_FLAGS-clause-serves
 returns-then-call-ne-VFORK_FLAGS-clause-serves c = λ a caller.
-    flags_serve a c.args.parts.now caller.entry caller.held c.args.call caller.stands c.if-call-ne-VFORK_FLAGS.true c.refusal.result c.refusal.ensures c.answer_effect.new.parts c.answer_effect.result
-    (c.answer_effect.ensures.serves a caller)
+    flags_serve a c.args.parts.now caller.entry caller.held c.args.call caller.stands c.if-call-ne-VFORK_FLAGS.true (refusal Einval) refl c.refuse.new.parts c.refuse.result
+    (c.refuse.ensures.serves a caller)
 
 pub returns-then-full-clause-serves : goal.returns-then-full-clause-serves
 returns-then-full-clause-serves c = λ a caller.
     let many = ap (λ (x : Kept). nat_le most_entries (count x.procs)) (sym c.parts.view_is) ∙ sym c.full.ensures.full ∙ c.if-full.true in
-    full_serves a c.args.parts.now caller.entry caller.held c.args.call caller.stands c.if-call-ne-VFORK_FLAGS.false many c.refusal-then-full.result c.refusal-then-full.ensures
-    c.answer_effect-then-full.new.parts c.answer_effect-then-full.result (c.answer_effect-then-full.ensures.serves a caller)
+    full_serves a c.args.parts.now caller.entry caller.held c.args.call caller.stands c.if-call-ne-VFORK_FLAGS.false many (refusal Eagain) refl
+    c.refuse-then-full.new.parts c.refuse-then-full.result (c.refuse-then-full.ensures.serves a caller)
 
 pub returns-then-not-has_room-clause-serves : goal.returns-then-not-has_room-clause-serves
 returns-then-not-has_room-clause-serves c = λ a caller.
@@ -48,15 +48,7 @@ returns-clause-leaves c =
     fork_leaves k r.0 call regular r.1.1.lives c.fork.new.self (c.in_ok-fork.ensures.forks r.0 r.1.0 r.1.1)
 
 pub returns-then-call-ne-VFORK_FLAGS-clause-leaves : goal.returns-then-call-ne-VFORK_FLAGS-clause-leaves
-returns-then-call-ne-VFORK_FLAGS-clause-leaves c = c.answer_effect.ensures.leaves c.requires
+returns-then-call-ne-VFORK_FLAGS-clause-leaves c = c.refuse.ensures.leaves c.requires
 
 pub returns-then-full-clause-leaves : goal.returns-then-full-clause-leaves
-returns-then-full-clause-leaves c = c.answer_effect-then-full.ensures.leaves c.requires
-
--- ---- a refusal maps no file
-
-pub answer_effect-requires-clause-plain : goal.answer_effect-requires-clause-plain
-answer_effect-requires-clause-plain c = refusal_plain c.args.call Einval c.refusal.result c.refusal.ensures
-
-pub answer_effect-requires-then-full-clause-plain : goal.answer_effect-requires-then-full-clause-plain
-answer_effect-requires-then-full-clause-plain c = refusal_plain c.args.call Eagain c.refusal-then-full.result c.refusal-then-full.ensures
+returns-then-full-clause-leaves c = c.refuse-then-full.ensures.leaves c.requires

@@ -1,6 +1,7 @@
 -- Which way the call goes, and what comes of it.
 use Rattle.std.proofs.Common.{rules, ◌≡◌, ◌<◌, ◌≤◌, arith, true, false, length, Some, None, refl, sym, ap, subst, ◌∙◌}
 use Rattle.std.specs.Prelude.{slice_get, slice_index}
+use Rattle.call_log.specs.Errno.{refusal}
 use Rattle.std.proofs.lemmas.Option.{slice_get_past, slice_get_read}
 use Rattle.std.proofs.lemmas.Result.{IfOk-weaker}
 use Rattle.std.proofs.lemmas.Bool.Decides.{nat_tests}
@@ -16,7 +17,6 @@ use Rattle.kept_parts.specs.Families.{mark_at}
 use Rattle.kept_parts.specs.InMemory.{headers_of}
 use Rattle.kept_parts.proofs.ExecCalls.{no_path, no_strings, no_program, no_flat, runs_flat, by_outcome, by_refusal, exec_full}
 use Rattle.kept_parts.proofs.ExecMemory.{full_in, header_listed, by_outcome_in, by_refusal_in}
-use Rattle.kept_parts.proofs.Recorded.{refusal_plain}
 use Rattle.syscall_layer.proofs.family.answer_exec.Given.{Over}
 use Rattle.syscall_layer.proofs.family.answer_exec.Goals.{After-program_strings, After-program_at}
 use Rattle.syscall_layer.proofs.family.answer_exec.Goals as goal
@@ -24,8 +24,8 @@ use Rattle.syscall_layer.proofs.family.answer_exec.Goals as goal
 pub returns-in_default-clause-serves : goal.returns-in_default-clause-serves
 returns-in_default-clause-serves g c = λ a kind flats caller.
     let none : has_zero c.args.call.sent.items ≡ false = ap has_zero (sym c.deref.ensures.value) ∙ c.in_default.ensures in
-    by_refusal a c.args.parts.now caller.entry caller.held c.args.call caller.stands c.answer_effect.new.parts c.answer_effect.result Enametoolong c.refusal.result c.refusal.ensures
-    (no_path a c.args.parts.now caller.entry caller.held c.args.call caller.stands none) (c.answer_effect.ensures.serves a caller)
+    by_refusal a c.args.parts.now caller.entry caller.held c.args.call caller.stands c.refuse.new.parts c.refuse.result Enametoolong (refusal Enametoolong) refl
+    (no_path a c.args.parts.now caller.entry caller.held c.args.call caller.stands none) (c.refuse.ensures.serves a caller)
 
 zero_there : (g : Over) (c : After-program_strings g) → has_zero c.args.call.sent.items ≡ true
 zero_there g c = ap has_zero (sym c.deref.ensures.value) ∙ c.in-Some.ensures.0
@@ -35,8 +35,8 @@ returns-in_default-2-clause-serves g c = λ a kind flats caller.
     let at = (goal.at.returns-in_default-2-clause-serves g c).After-program_strings in
     let call = c.args.call in
     let none : None ≡ program_strings call.sent.items (slice_index call.args 1) (slice_index call.args 2) = search rules in
-    by_refusal a c.args.parts.now caller.entry caller.held call caller.stands c.answer_effect-in_default-2.new.parts c.answer_effect-in_default-2.result E2big c.refusal-in_default-2.result c.refusal-in_default-2.ensures
-    (no_strings a c.args.parts.now caller.entry caller.held call caller.stands (zero_there g at) none) (c.answer_effect-in_default-2.ensures.serves a caller)
+    by_refusal a c.args.parts.now caller.entry caller.held call caller.stands c.refuse-in_default-2.new.parts c.refuse-in_default-2.result E2big (refusal E2big) refl
+    (no_strings a c.args.parts.now caller.entry caller.held call caller.stands (zero_there g at) none) (c.refuse-in_default-2.ensures.serves a caller)
 
 -- ---- with its strings
 
@@ -58,9 +58,9 @@ returns-in-Err-clause-serves g c = λ a kind flats caller.
     let zero = zero_there g (goal.at.returns-in-Err-clause-serves g c).After-program_strings in
     let k = c.args.parts.now in
     let call = c.args.call in
-    by_refusal a k caller.entry caller.held call caller.stands c.answer_effect-in-Err.new.parts c.answer_effect-in-Err.result c.in-Err.errno c.refusal-in-Err.result c.refusal-in-Err.ensures
+    by_refusal a k caller.entry caller.held call caller.stands c.refuse-in-Err.new.parts c.refuse-in-Err.result c.in-Err.errno (refusal c.in-Err.errno) refl
     (no_program a k caller.entry caller.held call caller.stands zero (strings g at) (strings_are g at) c.in-Some.path.now (path_is g at) c.in-Err.errno (sym (marked g at) ∙ c.in-Err.is))
-    (c.answer_effect-in-Err.ensures.serves a caller)
+    (c.refuse-in-Err.ensures.serves a caller)
 
 pub returns-in_default-get-clause-serves : goal.returns-in_default-get-clause-serves
 returns-in_default-get-clause-serves g c = λ a kind flats caller.
@@ -69,10 +69,10 @@ returns-in_default-get-clause-serves g c = λ a kind flats caller.
     let past : length c.args.programs.now ≤ c.in-Ok.index = let e = c.in_default-get.ensures.lookup.0 in grind (arith, nat_tests, e) in
     let k = c.args.parts.now in
     let call = c.args.call in
-    by_refusal a k caller.entry caller.held call caller.stands c.answer_effect-in_default-get.new.parts c.answer_effect-in_default-get.result Eacces c.refusal-in_default-get.result c.refusal-in_default-get.ensures
+    by_refusal a k caller.entry caller.held call caller.stands c.refuse-in_default-get.new.parts c.refuse-in_default-get.result Eacces (refusal Eacces) refl
     (no_flat a k caller.entry caller.held call caller.stands zero (strings g at) (strings_are g at) c.in-Some.path.now (path_is g at) c.in-Ok.index (sym (marked g at) ∙ c.in-Ok.is)
     c.args.programs.now flats (slice_get_past c.args.programs.now c.in-Ok.index past))
-    (c.answer_effect-in_default-get.ensures.serves a caller)
+    (c.refuse-in_default-get.ensures.serves a caller)
 
 pub returns-then-not-has_room-clause-serves : goal.returns-then-not-has_room-clause-serves
 returns-then-not-has_room-clause-serves g c = λ a kind flats caller.
@@ -96,16 +96,16 @@ returns-clause-serves g c = λ a kind flats caller.
 pub returns-in_default-clause-memory : goal.returns-in_default-clause-memory
 returns-in_default-clause-memory g c = λ a kind flats caller.
     let none : has_zero c.args.call.sent.items ≡ false = ap has_zero (sym c.deref.ensures.value) ∙ c.in_default.ensures in
-    by_refusal_in (headers_of c.args.programs.now) a c.args.parts.now caller.entry caller.held c.args.call c.answer_effect.new.parts c.answer_effect.result Enametoolong c.refusal.result c.refusal.ensures
-    (no_path a c.args.parts.now caller.entry caller.held c.args.call caller.stands none) c.answer_effect.ensures.memory (c.answer_effect.ensures.serves a caller)
+    by_refusal_in (headers_of c.args.programs.now) a c.args.parts.now caller.entry caller.held c.args.call c.refuse.new.parts c.refuse.result Enametoolong (refusal Enametoolong) refl
+    (no_path a c.args.parts.now caller.entry caller.held c.args.call caller.stands none) c.refuse.ensures.memory (c.refuse.ensures.serves a caller)
 
 pub returns-in_default-2-clause-memory : goal.returns-in_default-2-clause-memory
 returns-in_default-2-clause-memory g c = λ a kind flats caller.
     let at = (goal.at.returns-in_default-2-clause-memory g c).After-program_strings in
     let call = c.args.call in
     let none : None ≡ program_strings call.sent.items (slice_index call.args 1) (slice_index call.args 2) = search rules in
-    by_refusal_in (headers_of c.args.programs.now) a c.args.parts.now caller.entry caller.held call c.answer_effect-in_default-2.new.parts c.answer_effect-in_default-2.result E2big c.refusal-in_default-2.result c.refusal-in_default-2.ensures
-    (no_strings a c.args.parts.now caller.entry caller.held call caller.stands (zero_there g at) none) c.answer_effect-in_default-2.ensures.memory (c.answer_effect-in_default-2.ensures.serves a caller)
+    by_refusal_in (headers_of c.args.programs.now) a c.args.parts.now caller.entry caller.held call c.refuse-in_default-2.new.parts c.refuse-in_default-2.result E2big (refusal E2big) refl
+    (no_strings a c.args.parts.now caller.entry caller.held call caller.stands (zero_there g at) none) c.refuse-in_default-2.ensures.memory (c.refuse-in_default-2.ensures.serves a caller)
 
 pub returns-in-Err-clause-memory : goal.returns-in-Err-clause-memory
 returns-in-Err-clause-memory g c = λ a kind flats caller.
@@ -113,9 +113,9 @@ returns-in-Err-clause-memory g c = λ a kind flats caller.
     let zero = zero_there g (goal.at.returns-in-Err-clause-memory g c).After-program_strings in
     let k = c.args.parts.now in
     let call = c.args.call in
-    by_refusal_in (headers_of c.args.programs.now) a k caller.entry caller.held call c.answer_effect-in-Err.new.parts c.answer_effect-in-Err.result c.in-Err.errno c.refusal-in-Err.result c.refusal-in-Err.ensures
+    by_refusal_in (headers_of c.args.programs.now) a k caller.entry caller.held call c.refuse-in-Err.new.parts c.refuse-in-Err.result c.in-Err.errno (refusal c.in-Err.errno) refl
     (no_program a k caller.entry caller.held call caller.stands zero (strings g at) (strings_are g at) c.in-Some.path.now (path_is g at) c.in-Err.errno (sym (marked g at) ∙ c.in-Err.is))
-    c.answer_effect-in-Err.ensures.memory (c.answer_effect-in-Err.ensures.serves a caller)
+    c.refuse-in-Err.ensures.memory (c.refuse-in-Err.ensures.serves a caller)
 
 pub returns-in_default-get-clause-memory : goal.returns-in_default-get-clause-memory
 returns-in_default-get-clause-memory g c = λ a kind flats caller.
@@ -124,10 +124,10 @@ returns-in_default-get-clause-memory g c = λ a kind flats caller.
     let past : length c.args.programs.now ≤ c.in-Ok.index = let e = c.in_default-get.ensures.lookup.0 in grind (arith, nat_tests, e) in
     let k = c.args.parts.now in
     let call = c.args.call in
-    by_refusal_in (headers_of c.args.programs.now) a k caller.entry caller.held call c.answer_effect-in_default-get.new.parts c.answer_effect-in_default-get.result Eacces c.refusal-in_default-get.result c.refusal-in_default-get.ensures
+    by_refusal_in (headers_of c.args.programs.now) a k caller.entry caller.held call c.refuse-in_default-get.new.parts c.refuse-in_default-get.result Eacces (refusal Eacces) refl
     (no_flat a k caller.entry caller.held call caller.stands zero (strings g at) (strings_are g at) c.in-Some.path.now (path_is g at) c.in-Ok.index (sym (marked g at) ∙ c.in-Ok.is)
     c.args.programs.now flats (slice_get_past c.args.programs.now c.in-Ok.index past))
-    c.answer_effect-in_default-get.ensures.memory (c.answer_effect-in_default-get.ensures.serves a caller)
+    c.refuse-in_default-get.ensures.memory (c.refuse-in_default-get.ensures.serves a caller)
 
 pub returns-then-not-has_room-clause-memory : goal.returns-then-not-has_room-clause-memory
 returns-then-not-has_room-clause-memory g c = λ a kind flats caller.
@@ -154,31 +154,17 @@ returns-clause-memory g c = λ a kind flats caller.
 -- ---- what each answer leaves
 
 pub returns-in_default-clause-leaves : goal.returns-in_default-clause-leaves
-returns-in_default-clause-leaves g c = c.answer_effect.ensures.leaves c.requires.ready
+returns-in_default-clause-leaves g c = c.refuse.ensures.leaves c.requires.ready
 
 pub returns-in_default-2-clause-leaves : goal.returns-in_default-2-clause-leaves
-returns-in_default-2-clause-leaves g c = c.answer_effect-in_default-2.ensures.leaves c.requires.ready
+returns-in_default-2-clause-leaves g c = c.refuse-in_default-2.ensures.leaves c.requires.ready
 
 pub returns-in-Err-clause-leaves : goal.returns-in-Err-clause-leaves
-returns-in-Err-clause-leaves g c = c.answer_effect-in-Err.ensures.leaves c.requires.ready
+returns-in-Err-clause-leaves g c = c.refuse-in-Err.ensures.leaves c.requires.ready
 
 pub returns-in_default-get-clause-leaves : goal.returns-in_default-get-clause-leaves
-returns-in_default-get-clause-leaves g c = c.answer_effect-in_default-get.ensures.leaves c.requires.ready
+returns-in_default-get-clause-leaves g c = c.refuse-in_default-get.ensures.leaves c.requires.ready
 
 pub returns-clause-leaves : goal.returns-clause-leaves
 returns-clause-leaves g c =
     IfOk-weaker c.exec.result _ _ (λ (served : Served) is. subst (λ (s : Served). Tells c.args.parts.now c.exec.new.self c.args.call.pid s) (sym is) tt) c.exec.ensures.replied
-
--- ---- a refusal maps no file
-
-pub answer_effect-requires-clause-plain : goal.answer_effect-requires-clause-plain
-answer_effect-requires-clause-plain g c = refusal_plain c.args.call Enametoolong c.refusal.result c.refusal.ensures
-
-pub answer_effect-requires-in_default-2-clause-plain : goal.answer_effect-requires-in_default-2-clause-plain
-answer_effect-requires-in_default-2-clause-plain g c = refusal_plain c.args.call E2big c.refusal-in_default-2.result c.refusal-in_default-2.ensures
-
-pub answer_effect-requires-in-Err-clause-plain : goal.answer_effect-requires-in-Err-clause-plain
-answer_effect-requires-in-Err-clause-plain g c = refusal_plain c.args.call c.in-Err.errno c.refusal-in-Err.result c.refusal-in-Err.ensures
-
-pub answer_effect-requires-in_default-get-clause-plain : goal.answer_effect-requires-in_default-get-clause-plain
-answer_effect-requires-in_default-get-clause-plain g c = refusal_plain c.args.call Eacces c.refusal-in_default-get.result c.refusal-in_default-get.ensures

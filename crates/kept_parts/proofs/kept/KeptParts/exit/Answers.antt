@@ -17,18 +17,18 @@ use Rattle.kept_parts.proofs.PlainMemory.{end_mem}
 use Rattle.kept_parts.proofs.Holding.{holds_inside}
 use Rattle.kept_parts.proofs.kept.KeptParts.exit.Goals as goal
 
-pub keep-requires-clause-kept : goal.keep-requires-clause-kept
-keep-requires-clause-kept c =
+pub note_call-requires-clause-room : goal.note_call-requires-clause-room
+note_call-requires-clause-room c =
     room_left (kept_of c.self.inside) c.args.self.now c.self.view_is c.args.call.sent.items c.requires.room c.reserve.new.self.notes c.reserve.ensures.same c.new-got.result.items c.new-got.ensures.items
 
 pub returns-clause-exits : goal.returns-clause-exits
 returns-clause-exits c = λ e h.
     let k = kept_of c.self.inside in
     let call = c.args.call in
-    let noted = c.keep-2.ensures.notes ∙ ap (λ (ns : List Note). end_note call.pid (exit_of call) ∷ ns) (c.keep.ensures.notes
+    let noted = c.keep.ensures.notes ∙ ap (λ (ns : List Note). end_note call.pid (exit_of call) ∷ ns) (c.note_call.ensures.notes
     ∙ (λ i. noted_call call 0 (map got_value (c.new-got.ensures.items i)) ∷ c.reserve.ensures.same i)) in
     subst (λ (old : Kept). LivesIn old call.pid e h → c.depart.new.self ≡ after_exit old e h call) c.self.view_is
-    (λ runs. exit_done k call e h c.depart.new.self c.keep-2.new.log.notes c.pass.new.self noted
+    (λ runs. exit_done k call e h c.depart.new.self c.keep.new.log.notes c.pass.new.self noted
     (c.pass.ensures ∙ ap (λ (t : Task). event_recorded k.recording t.space) (value_found k.procs call.pid e runs.lives c.get.result.now c.get.ensures)) (c.depart.ensures.goes e h (record { lives = runs.lives; home = runs.home })))
 
 pub returns-clause-memory : goal.returns-clause-memory
@@ -36,7 +36,7 @@ returns-clause-memory c =
     let pid = c.args.call.pid in
     let k = kept_of c.self.inside in
     let lives = can_run_lives k.procs pid (subst (λ (s : Kept). CanRun s.procs pid) (sym c.self.view_is) c.requires.ready) in
-    end_mem k pid c.self.invariant.0.0 lives c.keep-2.new.log.notes c.pass.new.self (exit_of c.args.call) c.depart.new.self c.depart.ensures.goes ∙ ap (λ (s : Kept). s.mem) c.self.view_is
+    end_mem k pid c.self.invariant.0.0 lives c.keep.new.log.notes c.pass.new.self (exit_of c.args.call) c.depart.new.self c.depart.ensures.goes ∙ ap (λ (s : Kept). s.mem) c.self.view_is
 
 pub returns-clause-holds : goal.returns-clause-holds
 returns-clause-holds c = λ holds. c.depart.ensures.holds (holds_inside (kept_of c.self.inside) c.args.self.now c.self.view_is holds)

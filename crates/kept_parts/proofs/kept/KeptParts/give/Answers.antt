@@ -54,7 +54,7 @@ noted_so c = c.finish.ensures.notes ∙ ap (λ (ns : List Note). noted_call c.ar
 
 pub put-requires-clause-inside : goal.put-requires-clause-inside
 put-requires-clause-inside c =
-    let inside = subst (λ (s : Kept). stray_range (in_pages (length s.regions)) (got_of c.args.outcome) ≡ None) (sym c.self.view_is) c.requires.inside in
+    let inside = subst (λ (s : Kept). stray_range (in_pages (length s.regions)) (got_of c.args.outcome) ≡ None) (sym c.self.view_is) c.requires.within.inside in
     let same = ap (λ (xs : List Got). stray_range (in_pages (length (kept_of c.self.inside).regions)) (map got_value xs)) c.deref.ensures.value in
     (length (kept_of c.self.inside).regions, c.self.invariant.0.0.memory, same ∙ inside)
 
@@ -65,7 +65,7 @@ invariant_of-self-2 c =
     let gots = got_of c.args.outcome in
     let lives = subst (λ (s : Kept). Lives s.procs call.pid) (sym c.self.view_is) c.requires.lives in
     let r = runs_in k call.pid c.self.invariant.0.0 lives in
-    let fits = subst (λ (s : Kept). has_stray s.notes ≡ false → (e : _) → (h : _) → LivesIn s call.pid e h → stray_range (writable_in h.maps) gots ≡ None) (sym c.self.view_is) c.requires.kept in
+    let fits = subst (λ (s : Kept). has_stray s.notes ≡ false → (e : _) → (h : _) → LivesIn s call.pid e h → stray_range (writable_in h.maps) gots ≡ None) (sym c.self.view_is) c.requires.within.own in
     let counted = counts call c.args.outcome.value gots k.notes _ (noted_so c) in (
       (
         regular_finished k call.pid c.self.invariant.0.0 lives c.args.outcome.value c.put.new.mem k.tree c.follow-followed.new.files.open_files c.finish.new.procs c.finish.new.log.notes k.console c.pass.new.self
@@ -78,37 +78,35 @@ invariant_of-self-2 c =
       c.self.invariant.2,
     )
 
-pub returns-clause-gives : goal.returns-clause-gives
-returns-clause-gives c = λ a.
-    let k = kept_of c.self.inside in
-    let call = c.args.call in
-    let o = c.args.outcome in
-    subst (λ (old : Kept). (caller : Caller old call) → stray_range (writable_in caller.held.maps) (got_of o) ≡ None → Gave a old caller.entry caller.held call o (new_parts c)) c.self.view_is
-    (λ caller fits.
-    gave_by a k caller.entry caller.held call caller.runs caller.stands o c.put.new.mem (puts_all c) c.follow-followed.new.files.open_files c.finish.new.procs c.finish.new.log.notes c.pass.new.self
-    (rw (← c.in_ok-or_unreserve.ensures.same) at c.follow-followed.ensures.after) c.finish.ensures.procs (noted_so c)
-    (c.pass.ensures ∙ ap (λ (t : Task). event_recorded k.recording t.space) (value_found k.procs call.pid caller.entry caller.runs.lives c.get.result.now c.get.ensures)) c.requires.plain c.self.invariant.0.0 fits)
-
-pub returns-clause-memory : goal.returns-clause-memory
-returns-clause-memory c = λ a.
-    let k = kept_of c.self.inside in
-    let call = c.args.call in
-    let o = c.args.outcome in
-    subst (λ (old : Kept). (caller : Caller old call) → GaveIn a old caller.entry caller.held call o (new_parts c)) c.self.view_is
-    (λ caller.
-    gave_in_by a k caller.entry caller.held call caller.runs caller.stands o c.put.new.mem (puts_all c) c.follow-followed.new.files.open_files c.finish.new.procs c.finish.new.log.notes c.pass.new.self
-    (rw (← c.in_ok-or_unreserve.ensures.same) at c.follow-followed.ensures.after) c.finish.ensures.procs (noted_so c)
-    (c.pass.ensures ∙ ap (λ (t : Task). event_recorded k.recording t.space) (value_found k.procs call.pid caller.entry caller.runs.lives c.get.result.now c.get.ensures)) c.requires.plain c.put.ensures.len)
+pub returns-clause-leaves : goal.returns-clause-leaves
+returns-clause-leaves c = record {
+  gives = λ a.
+      let k = kept_of c.self.inside in
+      let call = c.args.call in
+      let o = c.args.outcome in
+      subst (λ (old : Kept). (caller : Caller old call) → stray_range (writable_in caller.held.maps) (got_of o) ≡ None → Gave a old caller.entry caller.held call o (new_parts c)) c.self.view_is
+      (λ caller fits.
+      gave_by a k caller.entry caller.held call caller.runs caller.stands o c.put.new.mem (puts_all c) c.follow-followed.new.files.open_files c.finish.new.procs c.finish.new.log.notes c.pass.new.self
+      (rw (← c.in_ok-or_unreserve.ensures.same) at c.follow-followed.ensures.after) c.finish.ensures.procs (noted_so c)
+      (c.pass.ensures ∙ ap (λ (t : Task). event_recorded k.recording t.space) (value_found k.procs call.pid caller.entry caller.runs.lives c.get.result.now c.get.ensures)) c.requires.plain c.self.invariant.0.0 fits);
+  memory = λ a.
+      let k = kept_of c.self.inside in
+      let call = c.args.call in
+      let o = c.args.outcome in
+      subst (λ (old : Kept). (caller : Caller old call) → GaveIn a old caller.entry caller.held call o (new_parts c)) c.self.view_is
+      (λ caller.
+      gave_in_by a k caller.entry caller.held call caller.runs caller.stands o c.put.new.mem (puts_all c) c.follow-followed.new.files.open_files c.finish.new.procs c.finish.new.log.notes c.pass.new.self
+      (rw (← c.in_ok-or_unreserve.ensures.same) at c.follow-followed.ensures.after) c.finish.ensures.procs (noted_so c)
+      (c.pass.ensures ∙ ap (λ (t : Task). event_recorded k.recording t.space) (value_found k.procs call.pid caller.entry caller.runs.lives c.get.result.now c.get.ensures)) c.requires.plain c.put.ensures.len);
+  holds = λ e h runs fits holds.
+      let k = kept_of c.self.inside in
+      let regular = c.self.invariant.0.0 in
+      let home = (subst (λ (s : Kept). LivesIn s c.args.call.pid e h) (sym c.self.view_is) runs).home in
+      let copies = copies_clean k c.self.invariant.0.1 (holds_inside k c.args.self.now c.self.view_is holds) in
+      (copies_given (cleaned k) (regular_clean k regular) e.value.space h home copies c.put.new.mem c.put.ensures.len (got_of c.args.outcome) (puts_all c) (λ unstrayed. fits)).hold (none_clean k.notes);
+}
 
 pub returns-clause-lives : goal.returns-clause-lives
 returns-clause-lives c =
     let lives = subst (λ (s : Kept). Lives s.procs c.args.call.pid) (sym c.self.view_is) c.requires.lives in
     replied_lives (kept_of c.self.inside).procs c.args.call.pid lives c.args.outcome.value c.finish.new.procs c.finish.ensures.procs
-
-pub returns-clause-holds : goal.returns-clause-holds
-returns-clause-holds c = λ e h runs fits holds.
-    let k = kept_of c.self.inside in
-    let regular = c.self.invariant.0.0 in
-    let home = (subst (λ (s : Kept). LivesIn s c.args.call.pid e h) (sym c.self.view_is) runs).home in
-    let copies = copies_clean k c.self.invariant.0.1 (holds_inside k c.args.self.now c.self.view_is holds) in
-    (copies_given (cleaned k) (regular_clean k regular) e.value.space h home copies c.put.new.mem c.put.ensures.len (got_of c.args.outcome) (puts_all c) (λ unstrayed. fits)).hold (none_clean k.notes)

@@ -42,16 +42,17 @@ use Rattle.kept_parts.proofs.Holding.{still, holds_inside, clean, none_clean, cl
 use Rattle.kept_parts.proofs.kept.KeptParts.map.Given.{Over}
 use Rattle.kept_parts.proofs.kept.KeptParts.map.Goals as goal
 
-pub map_in-mapped-requires-clause-names : goal.map_in-mapped-requires-clause-names
-map_in-mapped-requires-clause-names g c = λ h there.
+pub map_in-mapped-requires-clause-fits : goal.map_in-mapped-requires-clause-fits
+map_in-mapped-requires-clause-fits g c =
     let k = kept_of c.self.inside in
     let number = c.get.result.now.space in
-    name_regions k c.self.invariant.0.0 number h (sym (ap (λ (ss : List (Option Held)). slice_get ss number) c.deref_mut.ensures.value) ∙ there)
-
-pub map_in-mapped-requires-clause-few : goal.map_in-mapped-requires-clause-few
-map_in-mapped-requires-clause-few g c =
-    few_uses (kept_of c.self.inside) c.self.invariant.0.1
-    (room_counts c.self.inside.log.notes (length c.args.call.sent.items) (room_inside (kept_of c.self.inside) c.args.self.now c.self.view_is c.args.call.sent.items c.requires.room))
+    let there = ap (λ (ss : List (Option Held)). slice_get ss number) c.deref_mut.ensures.value in record {
+      pages = λ h is. c.self.invariant.0.0.pages number h (sym there ∙ is);
+      memory = c.self.invariant.0.0.memory;
+      names = λ h is. name_regions k c.self.invariant.0.0 number h (sym there ∙ is);
+      few = few_uses k c.self.invariant.0.1
+          (room_counts c.self.inside.log.notes (length c.args.call.sent.items) (room_inside k c.args.self.now c.self.view_is c.args.call.sent.items c.requires.room));
+    }
 
 -- ---- out of memory
 
@@ -73,7 +74,7 @@ stays g c =
     let k = kept_of c.self.inside in
     let number = c.get.result.now.space in
     let lives = subst (λ (s : Kept). Lives s.procs c.args.call.pid) (sym c.self.view_is) c.requires.lives in
-    let known = subst (λ (s : Kept). IsKnown s.tree c.args.want) (sym c.self.view_is) c.requires.known in
+    let known = subst (λ (s : Kept). IsKnown s.tree c.args.want) (sym c.self.view_is) c.requires.wanted.known in
     let live = has_space k c.args.call.pid c.get.result.now c.self.invariant.0.0 lives c.get.ensures in
     let is = c.map_in-mapped.ensures.maps live.held (ap (λ (ss : List (Option Held)). slice_get ss number) c.deref_mut.ensures.value ∙ live.there) in
     let spaces = (with_items c.self.inside.spaces c.map_in-mapped.new.spaces).items in
@@ -84,7 +85,7 @@ stays g c =
           (is.spaces ∙ ap (λ (ss : List (Option Held)). slice_set ss number (Some is.held)) c.deref_mut.ensures.value);
       maps = is.maps;
     } in
-    let same = same_mapped k c.self.invariant.0.0 c.self.invariant.0.1 number live.held live.there (kind_of c.args.chooser.now) c.args.want c.requires.pages known spaces
+    let same = same_mapped k c.self.invariant.0.0 c.self.invariant.0.1 number live.held live.there (kind_of c.args.chooser.now) c.args.want c.requires.wanted.pages known spaces
     c.map_in-mapped.new.regions.regions c.map_in-mapped.new.mem c.map_in-mapped.result c.in_err-value.field-0.0 at (rw (← c.in_err-value.ensures.same) at c.address.ensures) in
     λ i. record (same i) {
       starts = sym c.map_in-mapped.ensures.ids i;
@@ -95,15 +96,16 @@ stays g c =
 pub invariant_of-self-in_err-value : goal.invariant_of-self-in_err-value
 invariant_of-self-in_err-value g c = (subst IsRegular (stays g c) c.self.invariant.0, search rules, c.self.invariant.2 ∙ ap (λ (k : Kept). whole_table (length k.regions)) (stays g c))
 
-pub returns-in_err-value-clause-changes : goal.returns-in_err-value-clause-changes
-returns-in_err-value-clause-changes g c = λ a kind unstrayed caller.
-    let p = err_from_is_err_and c.from_residual-in_err-value.result c.from_residual-in_err-value.ensures.1 in
-    rw p.1 (sym (stays g c) ∙ c.self.view_is)
-
-pub returns-in_err-value-clause-memory : goal.returns-in_err-value-clause-memory
-returns-in_err-value-clause-memory g c = λ headers a kind caller.
-    let p = err_from_is_err_and c.from_residual-in_err-value.result c.from_residual-in_err-value.ensures.1 in
-    rw p.1 (sym (stays g c) ∙ c.self.view_is)
+pub returns-in_err-value-clause-leaves : goal.returns-in_err-value-clause-leaves
+returns-in_err-value-clause-leaves g c = record {
+  changes = λ a kind unstrayed caller.
+      let p = err_from_is_err_and c.from_residual-in_err-value.result c.from_residual-in_err-value.ensures.1 in
+      rw p.1 (sym (stays g c) ∙ c.self.view_is);
+  memory = λ headers a kind caller.
+      let p = err_from_is_err_and c.from_residual-in_err-value.result c.from_residual-in_err-value.ensures.1 in
+      rw p.1 (sym (stays g c) ∙ c.self.view_is);
+  holds = holds_inside _ c.args.self.now (sym (stays g c) ∙ c.self.view_is);
+}
 
 -- ---- a reply
 
@@ -148,10 +150,10 @@ pub invariant_of-self-2 : goal.invariant_of-self-2
 invariant_of-self-2 g c =
     let k = kept_of c.self.inside in
     let lives = subst (λ (s : Kept). Lives s.procs c.args.call.pid) (sym c.self.view_is) c.requires.lives in
-    let known = subst (λ (s : Kept). IsKnown s.tree c.args.want) (sym c.self.view_is) c.requires.known in
+    let known = subst (λ (s : Kept). IsKnown s.tree c.args.want) (sym c.self.view_is) c.requires.wanted.known in
     let live = has_space k c.args.call.pid c.get.result.now c.self.invariant.0.0 lives c.get.ensures in
     let is = left g c (kind_of c.args.chooser.now) refl live.held live.there in
-    let keeps = keeps_mapped k c.self.invariant.0.0 c.self.invariant.0.1 c.get.result.now.space live.held live.there (kind_of c.args.chooser.now) c.args.want c.requires.pages known
+    let keeps = keeps_mapped k c.self.invariant.0.0 c.self.invariant.0.1 c.get.result.now.space live.held live.there (kind_of c.args.chooser.now) c.args.want c.requires.wanted.pages known
     (new_parts g c).spaces c.map_in-mapped.new.regions.regions c.map_in-mapped.new.mem c.map_in-mapped.result is in
     let now = with_maps k c.map_in-mapped.new.mem c.map_in-mapped.new.regions.regions (new_parts g c).spaces in
     let counted = counts c.args.call c.in_ok-value.value [] k.notes c.finish.new.log.notes (noted g c) in (
@@ -188,57 +190,56 @@ left_at g c kind same e h runs =
     c.map_in-mapped.result) task
     (left g c kind same h (ap (λ (t : Task). slice_get k.spaces t.space) task ∙ runs.home))
 
-pub returns-clause-changes : goal.returns-clause-changes
-returns-clause-changes g c = λ a kind holding.
-    let k = kept_of c.self.inside in
-    let call = c.args.call in
-    let want = c.args.want in
-    let known = subst (λ (s : Kept). IsKnown s.tree want) (sym c.self.view_is) c.requires.known in
-    let holds = still k c.self.invariant.0.1 (subst StillHolds (sym c.self.view_is) holding) in
-    subst (λ (old : Kept). (caller : Caller old call) → Changed a old caller.entry caller.held call (mapped (asked_by a caller) want) (new_parts g c)) c.self.view_is
-    (λ caller. changed_ids a k caller.entry caller.held call _ _ (
-    changed_mapped a k caller.entry caller.held call caller.runs caller.stands c.in_ok-value.value (new_parts g c).spaces c.map_in-mapped.new.regions.regions c.finish.new.procs c.finish.new.log.notes
-    c.finish.ensures.procs (noted g c) c.pass.new.self c.self.invariant.0.0 holds want c.requires.pages known c.requires.asked c.map_in-mapped.new.mem c.map_in-mapped.result
-    (left_at g c a.kind kind caller.entry caller.held caller.runs) (rw (← c.in_ok-value.ensures.same) at c.address.ensures) (brought g c a.kind caller.entry caller.held caller.runs)) (new_parts g c).starts)
-
-pub returns-clause-memory : goal.returns-clause-memory
-returns-clause-memory g c = λ headers a kind.
-    let k = kept_of c.self.inside in
-    let call = c.args.call in
-    let want = c.args.want in
-    let known = subst (λ (s : Kept). IsKnown s.tree want) (sym c.self.view_is) c.requires.known in
-    let room = subst (λ (s : Kept). (caller : Caller s call) → RoomFor (world_of a s) (asked_by a caller) (mapped (asked_by a caller) want)) (sym c.self.view_is)
-    (c.requires.brings a kind) in
-    subst (λ (old : Kept). (caller : Caller old call) →
-    carried (physical_of headers a old) (physical old.mem) (answered (world_of a old) (asked_by a caller) (mapped (asked_by a caller) want)) ≡ after (physical_of headers (later 1 a) (new_parts g c)) false)
-    c.self.view_is
-    (λ caller.
-    memory_mapped headers a k caller.entry caller.held call caller.runs caller.stands c.in_ok-value.value (new_parts g c).spaces c.map_in-mapped.new.regions.regions c.finish.new.procs c.finish.new.log.notes
-    c.finish.ensures.procs (noted g c) c.pass.new.self c.self.invariant.0.0 want c.requires.pages known c.requires.asked c.map_in-mapped.new.mem c.map_in-mapped.result
-    (left_at g c a.kind kind caller.entry caller.held caller.runs) (rw (← c.in_ok-value.ensures.same) at c.address.ensures) (brought g c a.kind caller.entry caller.held caller.runs) (room caller)
-    ∙ ap (λ (x : Physical). after x false) (sym (physical_ids headers (later 1 a) _ (new_parts g c).starts)))
+pub returns-clause-leaves : goal.returns-clause-leaves
+returns-clause-leaves g c = record {
+  changes = λ a kind holding.
+      let k = kept_of c.self.inside in
+      let call = c.args.call in
+      let want = c.args.want in
+      let known = subst (λ (s : Kept). IsKnown s.tree want) (sym c.self.view_is) c.requires.wanted.known in
+      let holds = still k c.self.invariant.0.1 (subst StillHolds (sym c.self.view_is) holding) in
+      subst (λ (old : Kept). (caller : Caller old call) → Changed a old caller.entry caller.held call (mapped (asked_by a caller) want) (new_parts g c)) c.self.view_is
+      (λ caller. changed_ids a k caller.entry caller.held call _ _ (
+      changed_mapped a k caller.entry caller.held call caller.runs caller.stands c.in_ok-value.value (new_parts g c).spaces c.map_in-mapped.new.regions.regions c.finish.new.procs c.finish.new.log.notes
+      c.finish.ensures.procs (noted g c) c.pass.new.self c.self.invariant.0.0 holds want c.requires.wanted.pages known c.requires.wanted.asked c.map_in-mapped.new.mem c.map_in-mapped.result
+      (left_at g c a.kind kind caller.entry caller.held caller.runs) (rw (← c.in_ok-value.ensures.same) at c.address.ensures) (brought g c a.kind caller.entry caller.held caller.runs)) (new_parts g c).starts);
+  memory = λ headers a kind.
+      let k = kept_of c.self.inside in
+      let call = c.args.call in
+      let want = c.args.want in
+      let known = subst (λ (s : Kept). IsKnown s.tree want) (sym c.self.view_is) c.requires.wanted.known in
+      let room = subst (λ (s : Kept). (caller : Caller s call) → RoomFor (world_of a s) (asked_by a caller) (mapped (asked_by a caller) want)) (sym c.self.view_is)
+      (c.requires.brings a kind) in
+      subst (λ (old : Kept). (caller : Caller old call) →
+      carried (physical_of headers a old) (physical old.mem) (answered (world_of a old) (asked_by a caller) (mapped (asked_by a caller) want)) ≡ after (physical_of headers (later 1 a) (new_parts g c)) false)
+      c.self.view_is
+      (λ caller.
+      memory_mapped headers a k caller.entry caller.held call caller.runs caller.stands c.in_ok-value.value (new_parts g c).spaces c.map_in-mapped.new.regions.regions c.finish.new.procs c.finish.new.log.notes
+      c.finish.ensures.procs (noted g c) c.pass.new.self c.self.invariant.0.0 want c.requires.wanted.pages known c.requires.wanted.asked c.map_in-mapped.new.mem c.map_in-mapped.result
+      (left_at g c a.kind kind caller.entry caller.held caller.runs) (rw (← c.in_ok-value.ensures.same) at c.address.ensures) (brought g c a.kind caller.entry caller.held caller.runs) (room caller)
+      ∙ ap (λ (x : Physical). after x false) (sym (physical_ids headers (later 1 a) _ (new_parts g c).starts)));
+  holds = λ holds.
+      let k = kept_of c.self.inside in
+      let call = c.args.call in
+      let value = c.in_ok-value.value in
+      let lives = subst (λ (s : Kept). Lives s.procs call.pid) (sym c.self.view_is) c.requires.lives in
+      let known = subst (λ (s : Kept). IsKnown s.tree c.args.want) (sym c.self.view_is) c.requires.wanted.known in
+      let live = has_space k call.pid c.get.result.now c.self.invariant.0.0 lives c.get.ensures in
+      let copies = copies_clean k c.self.invariant.0.1 (holds_inside k c.args.self.now c.self.view_is holds) in
+      let keeps = keeps_mapped (cleaned k) (regular_clean k c.self.invariant.0.0) copies c.get.result.now.space live.held live.there (kind_of c.args.chooser.now) c.args.want c.requires.wanted.pages known
+      (new_parts g c).spaces c.map_in-mapped.new.regions.regions c.map_in-mapped.new.mem c.map_in-mapped.result (left g c (kind_of c.args.chooser.now) refl live.held live.there) in
+      let counted = counts call value [] (clean k.notes) _ refl in
+      (keeps.1 (noted_call call value [] ∷ clean k.notes) (omega (arith, counted)) (call_strays call value [] (clean k.notes) _ refl)).hold (none_clean k.notes);
+}
 
 pub returns-clause-lives : goal.returns-clause-lives
 returns-clause-lives g c =
     let lives = subst (λ (s : Kept). Lives s.procs c.args.call.pid) (sym c.self.view_is) c.requires.lives in
     lives_finished (kept_of c.self.inside) c.args.call.pid c.self.invariant.0.0 lives c.in_ok-value.value c.finish.new.procs c.finish.ensures.procs
 
-pub returns-clause-holds : goal.returns-clause-holds
-returns-clause-holds g c = λ holds.
-    let k = kept_of c.self.inside in
-    let call = c.args.call in
-    let value = c.in_ok-value.value in
-    let lives = subst (λ (s : Kept). Lives s.procs call.pid) (sym c.self.view_is) c.requires.lives in
-    let known = subst (λ (s : Kept). IsKnown s.tree c.args.want) (sym c.self.view_is) c.requires.known in
-    let live = has_space k call.pid c.get.result.now c.self.invariant.0.0 lives c.get.ensures in
-    let copies = copies_clean k c.self.invariant.0.1 (holds_inside k c.args.self.now c.self.view_is holds) in
-    let keeps = keeps_mapped (cleaned k) (regular_clean k c.self.invariant.0.0) copies c.get.result.now.space live.held live.there (kind_of c.args.chooser.now) c.args.want c.requires.pages known
-    (new_parts g c).spaces c.map_in-mapped.new.regions.regions c.map_in-mapped.new.mem c.map_in-mapped.result (left g c (kind_of c.args.chooser.now) refl live.held live.there) in
-    let counted = counts call value [] (clean k.notes) _ refl in
-    (keeps.1 (noted_call call value [] ∷ clean k.notes) (omega (arith, counted)) (call_strays call value [] (clean k.notes) _ refl)).hold (none_clean k.notes)
-
-pub returns-in_err-value-clause-holds : goal.returns-in_err-value-clause-holds
-returns-in_err-value-clause-holds g c = holds_inside _ c.args.self.now (sym (stays g c) ∙ c.self.view_is)
-
-pub returns-in_err-brings-clause-holds : goal.returns-in_err-brings-clause-holds
-returns-in_err-brings-clause-holds g c = holds_inside (kept_of c.self.inside) c.args.self.now c.self.view_is
+pub returns-in_err-brings-clause-leaves : goal.returns-in_err-brings-clause-leaves
+returns-in_err-brings-clause-leaves g c = record {
+  changes = search rules;
+  memory = search rules;
+  holds = holds_inside (kept_of c.self.inside) c.args.self.now c.self.view_is;
+}
