@@ -42,6 +42,8 @@ use Rattle.flat_machine.specs.declared.turn.After.TheVariants as after
 use Rattle.flat_machine.specs.State.{is_whole}
 use Rattle.flat_machine.specs.Leaves.{Carried, CarriedOrEnds, CarriedOrPast}
 use Rattle.flat_machine.specs.LeavesIn.{CarriedIn, CarriedWithin, EventIn, StandsWithin}
+use Rattle.flat_machine.specs.ByMode.{GoOnWithin}
+use Rattle.flat_machine.specs.Keeps.{KeepsRun}
 use Rattle.flat_machine.specs.Hits.{turn_hits_in}
 use Rattle.flat_machine.specs.HitsLeft.{HitsLead, EventHits}
 use Rattle.flat_machine.proofs.Picks.{may_run}
@@ -457,3 +459,12 @@ if_ok T (Err error) x holds is = absurd cc
 -- it changes no copy
 pub noted_holds : (pid : ℕ) (access : Access) (old mid : Kept) → mid ≡ with_range pid (Some access) old → has_stray old.notes ≡ false → IsRegular (without_newest mid) → HoldsFiles mid
 noted_holds pid access old mid note quiet regular = regular.1.hold (ap (λ (k : Kept). has_stray (without_newest k).notes) note ∙ quiet)
+
+-- of the parts: one that strays leaves them as they were
+pub strayed_same : (kind : Kind) (old new : RunParts) (pid : ℕ) (access : Access) → (old.mode ≡ Halt → has_stray old.kept.notes ≡ false)
+    → (old.mode ≡ Halt → (a : About) → a.kind ≡ kind → AreFlats a.programs old.programs → Carried a (event (world_of a old.kept) pid) old.kept new.kept pid (Ok (after.Strays access)))
+    → (old.mode ≡ GoOn → GoOnWithin kind old.programs pid old.kept new.kept (Ok (after.Strays access))) → old.noted ≡ has_stray old.kept.notes → KeepsRun old new
+    → (new ≡ old) × (has_stray old.kept.notes ≡ false)
+strayed_same kind old new pid access halting halts within noted keeps =
+    let so_it_is = stray_same kind old.programs old.kept new.kept pid access old.mode halting halts (λ go. (within go).memory) in
+    (parts_same old new so_it_is.0 keeps.programs keeps.mode (keeps.noted ∙ ap (λ (k : Kept). has_stray k.notes) so_it_is.0 ∙ sym noted), so_it_is.1)

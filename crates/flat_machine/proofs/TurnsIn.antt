@@ -197,3 +197,11 @@ module _ (kind : Kind) (flats : List Values) (pid : ℕ) (old mid new : Kept) wh
       walked = turn_in_used pid (shown a old) (shown (later n a) mid) n (reached a so are) ∙ ap (λ (k : Kept). remains_at_in (shown (later n a) k) None) (sym same);
       still = subst (λ (k : Kept). StandsStillIn (shown (later n a) k) pid) (sym same) (still (later n a));
     }
+
+-- who stands at a step that ends so isn't at an instruction that is carried out
+next_by : (reach : Reach) (p : Physical) (pid : ℕ) → StandsWithin reach p pid Next → ⊥
+next_by Own p pid s = s.means
+next_by Whole p pid s = s.means
+
+pub never_next : (reach : Reach) (p : Physical) (pid : ℕ) (stop : Stop) → stop ≡ Next → StandsWithin reach p pid stop → ⊥
+never_next reach p pid stop is s = let P : Stop → Type 0 = StandsWithin reach p pid in next_by reach p pid (subst P is s)

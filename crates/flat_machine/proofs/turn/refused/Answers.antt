@@ -1,5 +1,5 @@
 -- Out of reach of its own bytes an access strays, and out of memory it ends its process.
-use Rattle.std.proofs.Common.{sym, ap, ◌∙◌}
+use Rattle.std.proofs.Common.{refl, sym, ap, ◌∙◌}
 use Rattle.std.proofs.lemmas.Bool.{false≢true}
 use Rattle.memory_world.specs.Physical.{died_in, outside}
 use Rattle.kept_parts.specs.InMemory.{physical_of}
@@ -9,8 +9,15 @@ use Rattle.flat_machine.proofs.EventsIn.{dies_not}
 use Rattle.flat_machine.proofs.TurnsIn.{reach_noted}
 use Rattle.flat_machine.proofs.turn.refused.Goals as goal
 
-pub returns-in-Own-clause-noted : goal.returns-in-Own-clause-noted
-returns-in-Own-clause-noted c = sym (reach_noted c.args.parts.now.noted) ∙ ap is_whole (sym c.reach.ensures.reach) ∙ sym c.reach.ensures.strayed
+pub returns-in-Own-clause-keeps : goal.returns-in-Own-clause-keeps
+returns-in-Own-clause-keeps c = record {
+  keeps = record {
+    programs = refl;
+    mode = refl;
+    noted = sym (reach_noted c.args.parts.now.noted) ∙ ap is_whole (sym c.reach.ensures.reach) ∙ sym c.reach.ensures.strayed;
+  };
+  unchanged = tt;
+}
 
 pub returns-in-Own-clause-memory : goal.returns-in-Own-clause-memory
 returns-in-Own-clause-memory c was = absurd (false≢true (sym (c.reach.ensures.strayed ∙ ap is_whole c.in-Own.is) ∙ was))
