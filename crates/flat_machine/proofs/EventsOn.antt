@@ -20,8 +20,8 @@ use Rattle.memory_world.specs.Growth.{Adds}
 use Rattle.memory_world.proofs.Growth.{events_add, turns_add}
 use Rattle.memory_world.proofs.Moves.{noted_unstrayed, first_strays}
 use Rattle.memory_world.proofs.TurnsIn.{leads_in_event, turn_in_used}
-use Rattle.kept_parts.specs.declared.reach.Reach.{Reach}
-use Rattle.kept_parts.specs.declared.reach.Reach.TheVariants.{Own, Whole}
+use Rattle.region_watch.specs.declared.mode.Mode.{Mode}
+use Rattle.region_watch.specs.declared.mode.Mode.TheVariants.{Halt, GoOn}
 use Rattle.kept_parts.specs.Copies.{HoldsFiles}
 use Rattle.kept_parts.specs.Flats.{AreFlats}
 use Rattle.kept_parts.specs.Kept.{Kept}
@@ -29,8 +29,6 @@ use Rattle.kept_parts.specs.Regular.{IsRegular}
 use Rattle.kept_parts.specs.Stands.{About, later, world_of}
 use Rattle.kept_parts.specs.InMemory.{headers_of, physical_of, with_range, without_newest}
 use Rattle.kept_parts.proofs.Abouts.{about_with, some_are_flats}
-use Rattle.region_watch.specs.declared.mode.Mode.{Mode}
-use Rattle.region_watch.specs.declared.mode.Mode.TheVariants.{Halt, GoOn}
 use Rattle.syscall_layer.specs.Parts.{RunParts}
 use Rattle.watch_points.specs.declared.hits.Hit.{Hit}
 use Rattle.watch_points.specs.declared.point.PointKind.{PointKind}
@@ -307,16 +305,16 @@ module _ (point : PointKind) (spans : List Span) (pid : ℕ) where
 
 -- ---- where it stands firmly: an access that is refused within its own bytes strays
 
-pub firm : (reach : Reach) (p : Physical) (pid : ℕ) (stop : Stop) → StandsWithin reach p pid stop → (reach ≡ Own → (access : Access) → stop ≡ Refused access → ⊥) → StandsIn p pid stop
-firm Own p pid (Refused access) s other = absurd (other refl access refl)
-firm Own p pid Next s other = s
-firm Own p pid Call s other = s
-firm Own p pid (Trap signal) s other = s
-firm Whole p pid stop s other = s
+pub firm : (reach : Mode) (p : Physical) (pid : ℕ) (stop : Stop) → StandsWithin reach p pid stop → (reach ≡ Halt → (access : Access) → stop ≡ Refused access → ⊥) → StandsIn p pid stop
+firm Halt p pid (Refused access) s other = absurd (other refl access refl)
+firm Halt p pid Next s other = s
+firm Halt p pid Call s other = s
+firm Halt p pid (Trap signal) s other = s
+firm GoOn p pid stop s other = s
 
-pub firm_whole : (reach : Reach) (p : Physical) (pid : ℕ) (stop : Stop) → is_whole reach ≡ true → StandsWithin reach p pid stop → StandsIn p pid stop
-firm_whole Own p pid stop is s = absurd (false≢true is)
-firm_whole Whole p pid stop is s = s
+pub firm_whole : (reach : Mode) (p : Physical) (pid : ℕ) (stop : Stop) → is_whole reach ≡ true → StandsWithin reach p pid stop → StandsIn p pid stop
+firm_whole Halt p pid stop is s = absurd (false≢true is)
+firm_whole GoOn p pid stop is s = s
 
 -- ---- behind the note of the run's first stray access
 

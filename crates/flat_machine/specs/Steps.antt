@@ -4,7 +4,7 @@ use Rattle.vfork_exec.specs.Procs.{CanRun}
 use Rattle.region_watch.specs.declared.instructions.Progress.{Progress}
 use Rattle.machine_world.specs.Courses.{Leads, Halts}
 use Rattle.memory_world.specs.Courses.{LeadsIn}
-use Rattle.kept_parts.specs.declared.reach.Reach.{Reach}
+use Rattle.region_watch.specs.declared.mode.Mode.{Mode}
 use Rattle.kept_parts.specs.InMemory.{physical_of}
 use Rattle.kept_parts.specs.Kept.{Kept}
 use Rattle.kept_parts.specs.Stands.{About, later, world_of}
@@ -31,7 +31,7 @@ pub record OwnSteps (watched : Watched) (pid count : ℕ) (old : Kept) (before :
   pub hits : (a : About) → HitsLead (turn_hits watched.point watched.spans pid) before after (world_of a old) progress.done (world_of (later progress.done a) new)
 
 -- so in the one memory, of which this is reached
-pub record MemorySteps (watched : Watched) (pid count : ℕ) (reach : Reach) (old : Kept) (before : Found) (progress : Progress) (new : Kept) (after : Found) : Type 0 where
+pub record MemorySteps (watched : Watched) (pid count : ℕ) (reach : Mode) (old : Kept) (before : Found) (progress : Progress) (new : Kept) (after : Found) : Type 0 where
   pub leads : (headers : List (List ℕ)) (a : About) → LeadsIn pid (physical_of headers a old) progress.done (physical_of headers (later progress.done a) new)
   pub halts : (headers : List (List ℕ)) (a : About) → HaltsWithin reach (physical_of headers (later progress.done a) new) pid count progress.done progress.stop
   pub hits : (headers : List (List ℕ)) (a : About) → HitsLead (turn_hits_in watched.point watched.spans pid) before after (physical_of headers a old) progress.done (physical_of headers (later progress.done a) new)

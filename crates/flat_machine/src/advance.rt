@@ -4,12 +4,12 @@ ghost use Rattle.std.specs.Prelude.{◌≡◌, true};
 ghost use Rattle.mmap_rules.specs.Space.{writable_in, may_use};
 ghost use Rattle.vfork_exec.specs.Procs.{CanRun};
 ghost use Rattle.memory_world.specs.Physical.{has_stray};
-ghost use Rattle.kept_parts.specs.declared.reach.Reach.TheVariants.{Own};
-ghost use Rattle.flat_machine.specs.State.{is_whole, mode_within};
+ghost use Rattle.region_watch.specs.declared.mode.Mode.TheVariants.{Halt};
+ghost use Rattle.flat_machine.specs.State.{is_whole};
 ghost use Rattle.flat_machine.specs.Steps.{AdvanceKeeps, OwnSteps, MemorySteps};
 ghost use Rattle.watch_points.specs.Watchers.{IsWatcher, watched_by};
 
-use kept_parts::{KeptParts, Reach};
+use kept_parts::KeptParts;
 use mmap_rules::Space;
 use region_watch::{Mode, Progress, Watch, Window};
 use rv32im_step::Stop;
@@ -31,31 +31,21 @@ fn window(space: &Space, at: usize) -> Window
     Window { from: 0, size: 0 }
 }
 
-/// Within a process's own bytes a watch refuses what strays, within all of memory it carries it out.
-fn mode_within(reach: Reach) -> Mode
-    ensures { result ≡ mode_within reach }
-{
-    match reach {
-        Reach::Own => Mode::Halt,
-        Reach::Whole => Mode::GoOn,
-    }
-}
-
-/// Carries out up to `count` instructions of a process that may run, within this reach, and stops at the first that isn't carried out.
+/// Carries out up to `count` instructions of a process that may run, whose accesses are watched in this mode, and stops at the first that isn't carried out.
 pub(crate) fn advance<G: Fn(&[Span], u32, u32) -> bool>(
     parts: &mut KeptParts,
     pid: u32,
     count: u32,
-    reach: Reach,
+    mode: Mode,
     watcher: &Watcher<'_, G>,
     hits: &mut Hits,
 ) -> Progress
     requires watcher { IsWatcher G.pre G.post watcher.now }
     requires ready { CanRun parts.old.procs pid }
-    requires strayed { has_stray parts.old.notes ≡ is_whole reach }
+    requires strayed { has_stray parts.old.notes ≡ is_whole mode }
     ensures keeps { AdvanceKeeps pid count parts.old result.done parts.new }
-    ensures own { reach ≡ Own → OwnSteps (watched_by watcher.now) pid count parts.old hits.old result parts.new hits.new }
-    ensures memory { MemorySteps (watched_by watcher.now) pid count reach parts.old hits.old result parts.new hits.new }
+    ensures own { mode ≡ Halt → OwnSteps (watched_by watcher.now) pid count parts.old hits.old result parts.new hits.new }
+    ensures memory { MemorySteps (watched_by watcher.now) pid count mode parts.old hits.old result parts.new hits.new }
 {
     let task = parts.procs.get_mut(pid);
     match &parts.spaces[task.space as usize] {
@@ -63,7 +53,7 @@ pub(crate) fn advance<G: Fn(&[Span], u32, u32) -> bool>(
             let mut watch = Watch::with_windows(
                 &mut parts.mem,
                 space.owners(),
-                mode_within(reach),
+                mode,
                 window(space, 0),
                 window(space, 1),
             );

@@ -25,7 +25,7 @@ ghost use Rattle.watch_points.specs.Watchers.{IsWatcher, watched_by};
 use crate::advance::advance;
 use crate::hooks::Hooks;
 use crate::run::End;
-use kept_parts::{Reach, Served};
+use kept_parts::Served;
 use page_runs::{Chooser, Run};
 use region_watch::{Mode, Progress};
 use rv32im_step::{Access, Stop};
@@ -64,7 +64,7 @@ fn instructions<G: Fn(&[Span], u32, u32) -> bool>(
     ensures own { has_stray parts.old.kept.notes ≡ false → OwnSteps (watched_by watcher.now) pid count parts.old.kept hits.old result parts.new.kept hits.new }
     ensures memory { MemorySteps (watched_by watcher.now) pid count (reach_of parts.new.noted) parts.old.kept hits.old result parts.new.kept hits.new }
 {
-    let within = parts.reach();
+    let within = parts.watch_mode();
     advance(&mut parts.kept, pid, count, within, watcher, hits)
 }
 
@@ -77,9 +77,9 @@ fn refused(parts: &mut Parts, pid: u32, access: Access) -> Result<After, AllocEr
     ensures memory { has_stray parts.old.kept.notes ≡ true → (headers : List (List ℕ)) → (a : About) →
         CarriedIn headers a (died_in (physical_of headers a parts.old.kept) pid outside) parts.old.kept parts.new.kept pid result }
 {
-    match parts.reach() {
-        Reach::Own => Ok(After::Strays(access)),
-        Reach::Whole => {
+    match parts.watch_mode() {
+        Mode::Halt => Ok(After::Strays(access)),
+        Mode::GoOn => {
             parts.end_by_signal(pid, SIGSEGV)?;
             Ok(After::TurnEnds)
         }

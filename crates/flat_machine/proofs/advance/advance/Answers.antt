@@ -24,10 +24,10 @@ pub invariant_of-parts : goal.invariant_of-parts
 invariant_of-parts g c =
     let ready = subst (λ (k : Kept). CanRun k.procs c.args.pid) (sym c.parts.view_is) c.requires.ready in
     let strayed = rw (← c.parts.view_is) at c.requires.strayed in (
-      rw (c.pass.ensures) ((advances c.args.reach (kept_of c.parts.inside) c.args.pid c.args.count c.get_mut-task.result.now c.index.result.now c.in-Some.space c.with_windows-watch.result.mode c.owners.result.now
+      rw (c.pass.ensures) ((advances c.args.mode (kept_of c.parts.inside) c.args.pid c.args.count c.get_mut-task.result.now c.index.result.now c.in-Some.space c.with_windows-watch.result.mode c.owners.result.now
           c.with_windows-watch.result.owners.now c.with_windows-watch.result.mem.now c.run_watched-progress.new.watch.mem.now c.run_watched-progress.new.regs c.run_watched-progress.result.done c.run_watched-progress.result.stop
           c.parts.invariant.0 ready strayed c.get_mut-task.ensures.value c.index.ensures c.in-Some.is
-          c.owners.ensures.own c.owners.ensures.writable c.owners.ensures.pages (c.with_windows-watch.ensures.mode ∙ c.mode_within.ensures) c.with_windows-watch.ensures.owners c.with_windows-watch.ensures.mem
+          c.owners.ensures.own c.owners.ensures.writable c.owners.ensures.pages c.with_windows-watch.ensures.mode c.with_windows-watch.ensures.owners c.with_windows-watch.ensures.mem
           c.run_watched-progress.ensures.leaves.leaves c.run_watched-progress.ensures.leaves.frozen c.run_watched-progress.ensures.leaves.size).regular),
       c.parts.invariant.1,
       c.parts.invariant.2,
@@ -39,10 +39,10 @@ returns-in-Some-clause-keeps g c =
     let ready = subst (λ (k : Kept). CanRun k.procs c.args.pid) (sym c.parts.view_is) c.requires.ready in
     let strayed = rw (← c.parts.view_is) at c.requires.strayed in
     let advanced =
-    (advances c.args.reach (kept_of c.parts.inside) c.args.pid c.args.count c.get_mut-task.result.now c.index.result.now c.in-Some.space c.with_windows-watch.result.mode c.owners.result.now
+    (advances c.args.mode (kept_of c.parts.inside) c.args.pid c.args.count c.get_mut-task.result.now c.index.result.now c.in-Some.space c.with_windows-watch.result.mode c.owners.result.now
     c.with_windows-watch.result.owners.now c.with_windows-watch.result.mem.now c.run_watched-progress.new.watch.mem.now c.run_watched-progress.new.regs c.run_watched-progress.result.done c.run_watched-progress.result.stop
     c.parts.invariant.0 ready strayed c.get_mut-task.ensures.value c.index.ensures c.in-Some.is
-    c.owners.ensures.own c.owners.ensures.writable c.owners.ensures.pages (c.with_windows-watch.ensures.mode ∙ c.mode_within.ensures) c.with_windows-watch.ensures.owners c.with_windows-watch.ensures.mem
+    c.owners.ensures.own c.owners.ensures.writable c.owners.ensures.pages c.with_windows-watch.ensures.mode c.with_windows-watch.ensures.owners c.with_windows-watch.ensures.mem
     c.run_watched-progress.ensures.leaves.leaves c.run_watched-progress.ensures.leaves.frozen c.run_watched-progress.ensures.leaves.size) in
     rw (← v, c.pass.ensures) (record {
       ready = advanced.ready;
@@ -50,9 +50,9 @@ returns-in-Some-clause-keeps g c =
       notes = refl;
       files = refl;
       regions = refl;
-      still = λ none. (none_done c.args.reach (kept_of c.parts.inside) c.args.pid c.args.count c.get_mut-task.result.now c.in-Some.space c.with_windows-watch.result.mode c.owners.result.now
+      still = λ none. (none_done c.args.mode (kept_of c.parts.inside) c.args.pid c.args.count c.get_mut-task.result.now c.in-Some.space c.with_windows-watch.result.mode c.owners.result.now
           c.with_windows-watch.result.owners.now c.with_windows-watch.result.mem.now c.run_watched-progress.new.watch.mem.now c.run_watched-progress.new.regs c.run_watched-progress.result.done c.run_watched-progress.result.stop
-          c.get_mut-task.ensures.value c.owners.ensures.own c.owners.ensures.writable (c.with_windows-watch.ensures.mode ∙ c.mode_within.ensures) c.with_windows-watch.ensures.owners c.with_windows-watch.ensures.mem
+          c.get_mut-task.ensures.value c.owners.ensures.own c.owners.ensures.writable c.with_windows-watch.ensures.mode c.with_windows-watch.ensures.owners c.with_windows-watch.ensures.mem
           c.run_watched-progress.ensures.leaves.leaves c.run_watched-progress.ensures.leaves.frozen none);
     })
 
@@ -62,16 +62,16 @@ returns-in-Some-clause-own g c own =
     let ready = subst (λ (k : Kept). CanRun k.procs c.args.pid) (sym c.parts.view_is) c.requires.ready in
     let strayed = rw (← c.parts.view_is) at c.requires.strayed in
     let advanced =
-    (advances c.args.reach (kept_of c.parts.inside) c.args.pid c.args.count c.get_mut-task.result.now c.index.result.now c.in-Some.space c.with_windows-watch.result.mode c.owners.result.now
+    (advances c.args.mode (kept_of c.parts.inside) c.args.pid c.args.count c.get_mut-task.result.now c.index.result.now c.in-Some.space c.with_windows-watch.result.mode c.owners.result.now
     c.with_windows-watch.result.owners.now c.with_windows-watch.result.mem.now c.run_watched-progress.new.watch.mem.now c.run_watched-progress.new.regs c.run_watched-progress.result.done c.run_watched-progress.result.stop
     c.parts.invariant.0 ready strayed c.get_mut-task.ensures.value c.index.ensures c.in-Some.is
-    c.owners.ensures.own c.owners.ensures.writable c.owners.ensures.pages (c.with_windows-watch.ensures.mode ∙ c.mode_within.ensures) c.with_windows-watch.ensures.owners c.with_windows-watch.ensures.mem
+    c.owners.ensures.own c.owners.ensures.writable c.owners.ensures.pages c.with_windows-watch.ensures.mode c.with_windows-watch.ensures.owners c.with_windows-watch.ensures.mem
     c.run_watched-progress.ensures.leaves.leaves c.run_watched-progress.ensures.leaves.frozen c.run_watched-progress.ensures.leaves.size) in
-    let found = (advance_hits (kind_of_point c.args.watcher.now.point.now) c.args.watcher.now.spans.now c.args.hits.now c.run_watched-progress.new.hits c.args.reach (kept_of c.parts.inside) c.args.pid c.args.count
+    let found = (advance_hits (kind_of_point c.args.watcher.now.point.now) c.args.watcher.now.spans.now c.args.hits.now c.run_watched-progress.new.hits c.args.mode (kept_of c.parts.inside) c.args.pid c.args.count
     c.get_mut-task.result.now c.index.result.now c.in-Some.space c.with_windows-watch.result.mode c.owners.result.now
     c.with_windows-watch.result.owners.now c.with_windows-watch.result.mem.now c.run_watched-progress.new.watch.mem.now c.run_watched-progress.new.regs c.run_watched-progress.result.done c.run_watched-progress.result.stop
     c.run_watched-progress.ensures.hits advanced c.parts.invariant.0 strayed c.get_mut-task.ensures.value c.index.ensures c.in-Some.is
-    c.owners.ensures.own c.owners.ensures.writable c.owners.ensures.pages (c.with_windows-watch.ensures.mode ∙ c.mode_within.ensures) c.with_windows-watch.ensures.owners c.with_windows-watch.ensures.mem
+    c.owners.ensures.own c.owners.ensures.writable c.owners.ensures.pages c.with_windows-watch.ensures.mode c.with_windows-watch.ensures.owners c.with_windows-watch.ensures.mem
     c.run_watched-progress.ensures.leaves.leaves c.run_watched-progress.ensures.leaves.frozen c.run_watched-progress.ensures.leaves.size) in
     rw (← v, c.pass.ensures) (record { leads = advanced.leads own; halts = advanced.halts own; hits = found.own own })
 
@@ -81,16 +81,16 @@ returns-in-Some-clause-memory g c =
     let ready = subst (λ (k : Kept). CanRun k.procs c.args.pid) (sym c.parts.view_is) c.requires.ready in
     let strayed = rw (← c.parts.view_is) at c.requires.strayed in
     let advanced =
-    (advances c.args.reach (kept_of c.parts.inside) c.args.pid c.args.count c.get_mut-task.result.now c.index.result.now c.in-Some.space c.with_windows-watch.result.mode c.owners.result.now
+    (advances c.args.mode (kept_of c.parts.inside) c.args.pid c.args.count c.get_mut-task.result.now c.index.result.now c.in-Some.space c.with_windows-watch.result.mode c.owners.result.now
     c.with_windows-watch.result.owners.now c.with_windows-watch.result.mem.now c.run_watched-progress.new.watch.mem.now c.run_watched-progress.new.regs c.run_watched-progress.result.done c.run_watched-progress.result.stop
     c.parts.invariant.0 ready strayed c.get_mut-task.ensures.value c.index.ensures c.in-Some.is
-    c.owners.ensures.own c.owners.ensures.writable c.owners.ensures.pages (c.with_windows-watch.ensures.mode ∙ c.mode_within.ensures) c.with_windows-watch.ensures.owners c.with_windows-watch.ensures.mem
+    c.owners.ensures.own c.owners.ensures.writable c.owners.ensures.pages c.with_windows-watch.ensures.mode c.with_windows-watch.ensures.owners c.with_windows-watch.ensures.mem
     c.run_watched-progress.ensures.leaves.leaves c.run_watched-progress.ensures.leaves.frozen c.run_watched-progress.ensures.leaves.size) in
-    let found = (advance_hits (kind_of_point c.args.watcher.now.point.now) c.args.watcher.now.spans.now c.args.hits.now c.run_watched-progress.new.hits c.args.reach (kept_of c.parts.inside) c.args.pid c.args.count
+    let found = (advance_hits (kind_of_point c.args.watcher.now.point.now) c.args.watcher.now.spans.now c.args.hits.now c.run_watched-progress.new.hits c.args.mode (kept_of c.parts.inside) c.args.pid c.args.count
     c.get_mut-task.result.now c.index.result.now c.in-Some.space c.with_windows-watch.result.mode c.owners.result.now
     c.with_windows-watch.result.owners.now c.with_windows-watch.result.mem.now c.run_watched-progress.new.watch.mem.now c.run_watched-progress.new.regs c.run_watched-progress.result.done c.run_watched-progress.result.stop
     c.run_watched-progress.ensures.hits advanced c.parts.invariant.0 strayed c.get_mut-task.ensures.value c.index.ensures c.in-Some.is
-    c.owners.ensures.own c.owners.ensures.writable c.owners.ensures.pages (c.with_windows-watch.ensures.mode ∙ c.mode_within.ensures) c.with_windows-watch.ensures.owners c.with_windows-watch.ensures.mem
+    c.owners.ensures.own c.owners.ensures.writable c.owners.ensures.pages c.with_windows-watch.ensures.mode c.with_windows-watch.ensures.owners c.with_windows-watch.ensures.mem
     c.run_watched-progress.ensures.leaves.leaves c.run_watched-progress.ensures.leaves.frozen c.run_watched-progress.ensures.leaves.size) in
     rw (← v, c.pass.ensures) (record { leads = advanced.leads_in; halts = advanced.halts_in; hits = found.memory })
 

@@ -7,7 +7,7 @@ use Rattle.machine_world.specs.Event.{Outcome, event}
 use Rattle.kept_parts.specs.Copies.{HoldsFiles}
 use Rattle.kept_parts.specs.InMemory.{headers_of, physical_of}
 use Rattle.kept_parts.specs.Reach.{reach_of}
-use Rattle.kept_parts.specs.declared.reach.Reach.TheVariants.{Own}
+use Rattle.region_watch.specs.declared.mode.Mode.TheVariants.{Halt}
 use Rattle.kept_parts.specs.Stands.{later, world_of}
 use Rattle.syscall_layer.specs.Parts.{RunParts}
 use Rattle.watch_points.specs.Points.{kind_of_point}
@@ -36,7 +36,7 @@ returns-in_default-clause-goes_on g c go =
     let new = c.event_within.new.parts.kept in
     let headers = headers_of old.programs in
     let within = c.in_ok-after.ensures.goes_on go in
-    let never = λ (own : reach_of old.noted ≡ Own) (access : Access) (is : c.args.stop ≡ Refused access). other access
+    let never = λ (own : reach_of old.noted ≡ Halt) (access : Access) (is : c.args.stop ≡ Refused access). other access
     (let same : Ok c.in_ok-after.after ≡ Ok (Strays access) = c.in_ok-after.ensures.refuses (own_quiet old.kept old.noted c.requires.stands.noted own) access is in let here : c.in_ok-after.after ≡ Strays access = cc in here) in
     record {
       whole = record {
