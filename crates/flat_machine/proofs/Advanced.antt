@@ -24,7 +24,7 @@ use Rattle.machine_world.proofs.States.{find_has, change_alike, with_regs, with_
 use Rattle.machine_world.proofs.Steps.{RanOn, run_on}
 use Rattle.kept_parts.specs.declared.task.Task.{Task}
 use Rattle.kept_parts.specs.Kept.{Kept}
-use Rattle.kept_parts.specs.declared.reach.Reach.TheVariants.{Own}
+use Rattle.region_watch.specs.declared.mode.Mode.TheVariants.{Halt}
 use Rattle.kept_parts.specs.Reach.{Reaches}
 use Rattle.kept_parts.specs.Regular.{Regular, HasSpace}
 use Rattle.kept_parts.specs.Copies.{CopiesHold}
@@ -105,7 +105,7 @@ module _ (k : Kept) (pid count : ℕ) (e : Entry Task) (h : Held) (table : List 
 
   -- ---- over its own bytes
 
-  module _ (pages : ℕ) (reaches : Reaches Own pages h table) where
+  module _ (pages : ℕ) (reaches : Reaches Halt pages h table) where
     pub frozen_in : only (λ a. not (writable_in h.maps a)) (physical now) ≡ only (λ a. not (writable_in h.maps a)) (physical k.mem)
     frozen_in = subst (λ (w : ℕ → _). only (λ a. not (w a)) (physical now) ≡ only (λ a. not (w a)) (physical k.mem)) reaches.writes r.frozen
 

@@ -30,8 +30,7 @@ use Rattle.memory_world.specs.Courses.{LeadsIn, IsShown, StandsIn, HaltsIn}
 use Rattle.memory_world.proofs.StepsIn.{own_instructions_lead, whole_instructions_lead}
 use Rattle.memory_world.proofs.Moves.{calls_in, traps_in}
 use Rattle.kept_parts.specs.declared.task.Task.{Task}
-use Rattle.kept_parts.specs.declared.reach.Reach.{Reach}
-use Rattle.kept_parts.specs.declared.reach.Reach.TheVariants.{Own, Whole}
+use Rattle.region_watch.specs.declared.mode.Mode.TheVariants.{Halt, GoOn}
 use Rattle.kept_parts.specs.Kept.{Kept}
 use Rattle.kept_parts.specs.Reach.{Reaches}
 use Rattle.kept_parts.specs.Regular.{Regular, HasSpace, IsRegular}
@@ -40,7 +39,7 @@ use Rattle.kept_parts.specs.Stands.{About, later, private_bytes, private_of, liv
 use Rattle.kept_parts.specs.InMemory.{physical_of}
 use Rattle.kept_parts.proofs.Shows.{shown_as, shows}
 use Rattle.kept_parts.proofs.Worlds.{find_space, find_process}
-use Rattle.flat_machine.specs.State.{is_whole, mode_within}
+use Rattle.flat_machine.specs.State.{is_whole}
 use Rattle.flat_machine.specs.LeavesIn.{HaltsWithin}
 use Rattle.kept_parts.proofs.Abouts.{some_about}
 use Rattle.flat_machine.proofs.Within.{writable_own, table_inside}
@@ -92,7 +91,7 @@ module _ (headers : List (List ℕ)) (a : About) (k : Kept) (pid count : ℕ) (e
 
   -- ---- over its own bytes
 
-  module _ (reaches : Reaches Own (length k.regions) h table) where
+  module _ (reaches : Reaches Halt (length k.regions) h table) where
     pub may_inside : IsWithin (in_pages (length k.regions)) (writable_in h.maps)
     may_inside =
         subst (λ (w : ℕ → Bool). IsWithin (in_pages (length k.regions)) w) reaches.writes
@@ -119,7 +118,7 @@ module _ (headers : List (List ℕ)) (a : About) (k : Kept) (pid count : ℕ) (e
 
   -- ---- over all of memory
 
-  module _ (reaches : Reaches Whole (length k.regions) h table) (strayed : has_stray k.notes ≡ true) where
+  module _ (reaches : Reaches GoOn (length k.regions) h table) (strayed : has_stray k.notes ≡ true) where
     pub whole_read : (mem : List ℕ) → length mem ≡ 4096 * length k.regions → own_bytes table mem ≡ physical mem
     whole_read mem paged = ap (λ (test : ℕ → Bool). only test (physical mem)) reaches.reads ∙ all_pages (length k.regions) mem paged
 
@@ -149,7 +148,7 @@ module _ (headers : List (List ℕ)) (a : About) (k : Kept) (pid count : ℕ) (e
 -- ---- where the process stands behind them
 
 module _ (k : Kept) (pid count : ℕ) (e : Entry Task) (h : Held) (table : List PageOwner) (now : List ℕ) (regs : Regs) (done : ℕ) (stop : Stop)
-    (r : Ranged k pid count e h table now regs done stop) (reaches : Reaches Own (length k.regions) h table) (headers : List (List ℕ)) (a : About) where
+    (r : Ranged k pid count e h table now regs done stop) (reaches : Reaches Halt (length k.regions) h table) (headers : List (List ℕ)) (a : About) where
   abbrev left_kept : Kept
   left_kept = after k pid e.value regs now done
 
@@ -204,16 +203,16 @@ module _ (k : Kept) (pid count : ℕ) (e : Entry Task) (h : Held) (table : List 
     means = traps_in left_in pid s.process s.space s.lives s.has (shown_of headers (later done a) left_kept) (writable_own s.space.space.maps) (inside_of s.process s.space s.lives s.has) signal s.means;
   }
 
-  pub own_halts_in : HaltsWithin Own left_in pid count done stop
+  pub own_halts_in : HaltsWithin Halt left_in pid count done stop
   own_halts_in = by stop (after_halts k pid count e h table now regs done stop r (length k.regions) reaches a)
     where
-      by : (s : Stop) → Halts left_world pid count done s → HaltsWithin Own left_in pid count done s
+      by : (s : Stop) → Halts left_world pid count done s → HaltsWithin Halt left_in pid count done s
       by Next halts = halts
       by Call halts = (halts.0, calls_new halts.1)
       by (Trap signal) halts = (halts.0, traps_new signal halts.1)
       by (Refused access) halts = (halts.0, tt)
 
-whole_halts : (p : Physical) (pid count done : ℕ) (stop : Stop) → HaltsIn p pid count done stop → HaltsWithin Whole p pid count done stop
+whole_halts : (p : Physical) (pid count done : ℕ) (stop : Stop) → HaltsIn p pid count done stop → HaltsWithin GoOn p pid count done stop
 whole_halts p pid count done Next halts = halts
 whole_halts p pid count done Call halts = halts
 whole_halts p pid count done (Trap signal) halts = halts
@@ -227,12 +226,12 @@ halts_in_within p pid count done (Refused access) h = let less = h.0 in omega ar
 
 -- ---- up to so many instructions of a process
 
-pub record Advances (reach : Reach) (k now : Kept) (pid count done : ℕ) (stop : Stop) : Type 0 where
+pub record Advances (reach : Mode) (k now : Kept) (pid count done : ℕ) (stop : Stop) : Type 0 where
   pub regular : IsRegular now
   pub ready : CanRun now.procs pid
   pub within : done ≤ count
-  pub leads : reach ≡ Own → (a : About) → Leads pid (world_of a k) done (world_of (later done a) now)
-  pub halts : reach ≡ Own → (a : About) → Halts (world_of (later done a) now) pid count done stop
+  pub leads : reach ≡ Halt → (a : About) → Leads pid (world_of a k) done (world_of (later done a) now)
+  pub halts : reach ≡ Halt → (a : About) → Halts (world_of (later done a) now) pid count done stop
   pub leads_in : (headers : List (List ℕ)) (a : About) → LeadsIn pid (physical_of headers a k) done (physical_of headers (later done a) now)
   pub halts_in : (headers : List (List ℕ)) (a : About) → HaltsWithin reach (physical_of headers (later done a) now) pid count done stop
 
@@ -244,10 +243,10 @@ whole_copies k now copies strayed = record {
   uses = copies.uses;
 }
 
-advances_in : (reach : Reach) (k : Kept) (pid count : ℕ) (e : Entry Task) (h : Held) (table : List PageOwner) (now : List ℕ) (regs : Regs) (done : ℕ) (stop : Stop)
+advances_in : (reach : Mode) (k : Kept) (pid count : ℕ) (e : Entry Task) (h : Held) (table : List PageOwner) (now : List ℕ) (regs : Regs) (done : ℕ) (stop : Stop)
     → Ranged k pid count e h table now regs done stop → Reaches reach (length k.regions) h table → has_stray k.notes ≡ is_whole reach → CanRun k.procs pid
     → Advances reach k (after k pid e.value regs now done) pid count done stop
-advances_in Own k pid count e h table now regs done stop r reaches strayed ready = record {
+advances_in Halt k pid count e h table now regs done stop r reaches strayed ready = record {
   regular = (after_regular k pid count e h table now regs done stop r, after_copies k pid count e h table now regs done stop r (length k.regions) reaches);
   ready = after_ready k pid count e h table now regs done stop r ready;
   within = halts_within (world_of (later done some_about) (after k pid e.value regs now done)) pid count done stop
@@ -257,7 +256,7 @@ advances_in Own k pid count e h table now regs done stop r reaches strayed ready
   leads_in = λ headers a. own_leads_in headers a k pid count e h table now regs done stop r reaches;
   halts_in = λ headers a. own_halts_in k pid count e h table now regs done stop r reaches headers a;
 }
-advances_in Whole k pid count e h table now regs done stop r reaches strayed ready = record {
+advances_in GoOn k pid count e h table now regs done stop r reaches strayed ready = record {
   regular = (after_regular k pid count e h table now regs done stop r, whole_copies k now r.copies strayed);
   ready = after_ready k pid count e h table now regs done stop r ready;
   within = halts_in_within (physical_of [] (later done some_about) (after k pid e.value regs now done)) pid count done stop
@@ -282,15 +281,15 @@ space_paged k pid task x h table regular is at space long =
     omega (arith, space_long k task.space x h table regular (has_space k pid task regular is) at space long, regular.memory)
 
 -- a table of just the bytes within reach, and what the instructions leave by it
-pub record ByTable (reach : Reach) (k : Kept) (pid count : ℕ) (task : Task) (h : Held) (mode : Mode) (table : List PageOwner) (now : List ℕ) (regs : Regs) (done : ℕ) (stop : Stop) : Type 0 where
+pub record ByTable (reach : Mode) (k : Kept) (pid count : ℕ) (task : Task) (h : Held) (mode : Mode) (table : List PageOwner) (now : List ℕ) (regs : Regs) (done : ℕ) (stop : Stop) : Type 0 where
   pub entry : Entry Task
   pub value : entry.value ≡ task
   pub passed : AsTable reach (length k.regions) h mode table
   pub ranged : Ranged k pid count entry h passed.table now regs done stop
 
-pub by_table : (reach : Reach) (k : Kept) (pid count : ℕ) (task : Task) (x : Option Held) (h : Held) (mode : Mode) (table seen : List PageOwner) (was now : List ℕ) (regs : Regs) (done : ℕ) (stop : Stop)
+pub by_table : (reach : Mode) (k : Kept) (pid count : ℕ) (task : Task) (x : Option Held) (h : Held) (mode : Mode) (table seen : List PageOwner) (was now : List ℕ) (regs : Regs) (done : ℕ) (stop : Stop)
     → IsRegular k → value_at k.procs pid ≡ Some task → x ≡ get_or k.spaces task.space x → x ≡ Some h
-    → owns table false ≡ own_in h.maps → owns table true ≡ writable_in h.maps → length table ≡ h.pages → mode ≡ mode_within reach → seen ≡ table → was ≡ k.mem
+    → owns table false ≡ own_in h.maps → owns table true ≡ writable_in h.maps → length table ≡ h.pages → mode ≡ reach → seen ≡ table → was ≡ k.mem
     → ran regs (passed_bytes mode seen now) done stop ≡ instructions count (passes mode seen true) task.regs (passed_bytes mode seen was)
     → kept_bytes mode seen now ≡ kept_bytes mode seen was → length now ≡ length was → ByTable reach k pid count task h mode table now regs done stop
 by_table reach k pid count task x h mode table seen was now regs done stop regular is at space own writes long within sees before leaves same stays =
@@ -316,9 +315,9 @@ by_table reach k pid count task x h mode table seen was now regs done stop regul
       };
     }
 
-pub advances : (reach : Reach) (k : Kept) (pid count : ℕ) (task : Task) (x : Option Held) (h : Held) (mode : Mode) (table seen : List PageOwner) (was now : List ℕ) (regs : Regs) (done : ℕ) (stop : Stop)
+pub advances : (reach : Mode) (k : Kept) (pid count : ℕ) (task : Task) (x : Option Held) (h : Held) (mode : Mode) (table seen : List PageOwner) (was now : List ℕ) (regs : Regs) (done : ℕ) (stop : Stop)
     → IsRegular k → CanRun k.procs pid → has_stray k.notes ≡ is_whole reach → value_at k.procs pid ≡ Some task → x ≡ get_or k.spaces task.space x → x ≡ Some h
-    → owns table false ≡ own_in h.maps → owns table true ≡ writable_in h.maps → length table ≡ h.pages → mode ≡ mode_within reach → seen ≡ table → was ≡ k.mem
+    → owns table false ≡ own_in h.maps → owns table true ≡ writable_in h.maps → length table ≡ h.pages → mode ≡ reach → seen ≡ table → was ≡ k.mem
     → ran regs (passed_bytes mode seen now) done stop ≡ instructions count (passes mode seen true) task.regs (passed_bytes mode seen was)
     → kept_bytes mode seen now ≡ kept_bytes mode seen was → length now ≡ length was → Advances reach k (after k pid task regs now done) pid count done stop
 advances reach k pid count task x h mode table seen was now regs done stop regular ready strayed is at space own writes long within sees before leaves same stays =

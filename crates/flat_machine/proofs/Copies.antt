@@ -12,8 +12,8 @@ use Rattle.vfork_exec.specs.declared.entry.Entry.{Entry}
 use Rattle.vfork_exec.specs.Procs.{process, value_at}
 use Rattle.kept_parts.specs.declared.task.Task.{Task}
 use Rattle.kept_parts.specs.Kept.{Kept}
-use Rattle.kept_parts.specs.declared.reach.Reach.{Reach}
-use Rattle.kept_parts.specs.declared.reach.Reach.TheVariants.{Own, Whole}
+use Rattle.region_watch.specs.declared.mode.Mode.{Mode}
+use Rattle.region_watch.specs.declared.mode.Mode.TheVariants.{Halt, GoOn}
 use Rattle.kept_parts.specs.Reach.{Reaches, readable}
 use Rattle.kept_parts.specs.Regular.{Regular, HasSpace}
 use Rattle.call_bytes.specs.Reading.{appended}
@@ -77,7 +77,7 @@ module _ (a : About) (k : Kept) (pid addr len : ℕ) where
 
 -- ---- within reach
 
-module _ (reach : Reach) (k : Kept) (pid addr len : ℕ) (table : List PageOwner) (task : Task) (regular : Regular k)
+module _ (reach : Mode) (k : Kept) (pid addr len : ℕ) (table : List PageOwner) (task : Task) (regular : Regular k)
     (is : value_at k.procs pid ≡ Some task) (each : (h : Held) → slice_get k.spaces task.space ≡ Some (Some h) → Reaches reach (length k.regions) h table) where
   live : HasSpace k.spaces task.space
   live = has_space k pid task regular is
@@ -89,33 +89,33 @@ module _ (reach : Reach) (k : Kept) (pid addr len : ℕ) (table : List PageOwner
   pub copied_paged : length k.mem ≡ 4096 * length table
   copied_paged = reached_pages reach k live.held table regular reaches
 
-  own_seen : reach ≡ Own → own_bytes_in table k.mem ≡ private_bytes k.mem live.held
+  own_seen : reach ≡ Halt → own_bytes_in table k.mem ≡ private_bytes k.mem live.held
   unfolding private_bytes
   own_seen own =
-      reached_bytes reach (length k.regions) live.held table k.mem reaches ∙ ap (λ (r : Reach). only (readable r (length k.regions) live.held) (physical k.mem)) own
+      reached_bytes reach (length k.regions) live.held table k.mem reaches ∙ ap (λ (r : Mode). only (readable r (length k.regions) live.held) (physical k.mem)) own
 
-  whole_seen : reach ≡ Whole → own_bytes_in table k.mem ≡ physical k.mem
+  whole_seen : reach ≡ GoOn → own_bytes_in table k.mem ≡ physical k.mem
   whole_seen all =
-      reached_bytes reach (length k.regions) live.held table k.mem reaches ∙ ap (λ (r : Reach). only (readable r (length k.regions) live.held) (physical k.mem)) all
+      reached_bytes reach (length k.regions) live.held table k.mem reaches ∙ ap (λ (r : Mode). only (readable r (length k.regions) live.held) (physical k.mem)) all
       ∙ all_pages (length k.regions) k.mem regular.memory
 
   abbrev span : Span
   span = record { addr = addr; len = len }
 
-  pub copied_own : (old new : List ℕ) → old ≡ [] → appended old (read_span (own_bytes_in table k.mem) span) ≡ Ok new → reach ≡ Own → (a : About) → Some new ≡ own_bytes (world_of a k) pid addr len
+  pub copied_own : (old new : List ℕ) → old ≡ [] → appended old (read_span (own_bytes_in table k.mem) span) ≡ Ok new → reach ≡ Halt → (a : About) → Some new ≡ own_bytes (world_of a k) pid addr len
   copied_own old new empty found own a =
       own_read a k pid addr len task live.held old new is live.there empty (ap (λ (m : Bytes). appended old (read_span m span)) (sym (own_seen own)) ∙ found)
 
-  pub copied_whole : (old new : List ℕ) → old ≡ [] → appended old (read_span (own_bytes_in table k.mem) span) ≡ Ok new → reach ≡ Whole → (headers : List (List ℕ)) (a : About)
+  pub copied_whole : (old new : List ℕ) → old ≡ [] → appended old (read_span (own_bytes_in table k.mem) span) ≡ Ok new → reach ≡ GoOn → (headers : List (List ℕ)) (a : About)
       → Some new ≡ memory_bytes (physical_of headers a k) pid addr len
   copied_whole old new empty found all headers a =
       sym (memory_is a k pid addr len headers task is
       ∙ read_all (read_span (physical k.mem) span) old new empty (ap (λ (m : Bytes). appended old (read_span m span)) (sym (whole_seen all)) ∙ found))
 
-  pub strays_own : (seen : Span) → read_span (own_bytes_in table k.mem) span ≡ Err seen → reach ≡ Own → (a : About) → None ≡ own_bytes (world_of a k) pid addr len
+  pub strays_own : (seen : Span) → read_span (own_bytes_in table k.mem) span ≡ Err seen → reach ≡ Halt → (a : About) → None ≡ own_bytes (world_of a k) pid addr len
   strays_own seen found own a = own_strays a k pid addr len task live.held seen is live.there (ap (λ (m : Bytes). read_span m span) (sym (own_seen own)) ∙ found)
 
-  pub strays_whole : (seen : Span) → read_span (own_bytes_in table k.mem) span ≡ Err seen → reach ≡ Whole → (headers : List (List ℕ)) (a : About)
+  pub strays_whole : (seen : Span) → read_span (own_bytes_in table k.mem) span ≡ Err seen → reach ≡ GoOn → (headers : List (List ℕ)) (a : About)
       → None ≡ memory_bytes (physical_of headers a k) pid addr len
   strays_whole seen found all headers a =
       sym (memory_is a k pid addr len headers task is ∙ ap read_or_none (ap (λ (m : Bytes). read_span m span) (sym (whole_seen all)) ∙ found))

@@ -14,8 +14,8 @@ use Rattle.machine_world.proofs.Signals.{trap_small}
 use Rattle.memory_world.specs.Physical.{Physical, in_memory, After as Outcome_in, after as goes, no_room, nobody, has_stray, first_stray_in, with_stray, event_in, carried_out, died_in, outside}
 use Rattle.memory_world.specs.Courses.{StandsIn}
 use Rattle.memory_world.proofs.Moves.{noted_unstrayed, first_strays, event_in_carried, event_in_calm, carried_trapped, carried_refused}
-use Rattle.kept_parts.specs.declared.reach.Reach.{Reach}
-use Rattle.kept_parts.specs.declared.reach.Reach.TheVariants.{Own, Whole}
+use Rattle.region_watch.specs.declared.mode.Mode.{Mode}
+use Rattle.region_watch.specs.declared.mode.Mode.TheVariants.{Halt, GoOn}
 use Rattle.kept_parts.specs.declared.served.Served.{Served}
 use Rattle.kept_parts.specs.declared.served.Served.TheVariants as served
 use Rattle.kept_parts.specs.Kept.{Kept}
@@ -105,13 +105,13 @@ module _ (headers : List (List ℕ)) (a : About) (old new : Kept) (pid : ℕ) wh
 
 -- ---- where it stands
 
-pub call_stands : (reach : Reach) (p : Physical) (pid : ℕ) (stop : Stop) → stop ≡ Call → StandsWithin reach p pid stop → StandsIn p pid Call
-call_stands Own p pid stop at stands = subst (StandsWithin Own p pid) at stands
-call_stands Whole p pid stop at stands = subst (StandsWithin Whole p pid) at stands
+pub call_stands : (reach : Mode) (p : Physical) (pid : ℕ) (stop : Stop) → stop ≡ Call → StandsWithin reach p pid stop → StandsIn p pid Call
+call_stands Halt p pid stop at stands = subst (StandsWithin Halt p pid) at stands
+call_stands GoOn p pid stop at stands = subst (StandsWithin GoOn p pid) at stands
 
-trap_stands : (reach : Reach) (p : Physical) (pid : ℕ) (stop : Stop) (signal : ℕ) → stop ≡ Trap signal → StandsWithin reach p pid stop → StandsIn p pid (Trap signal)
-trap_stands Own p pid stop signal at stands = subst (StandsWithin Own p pid) at stands
-trap_stands Whole p pid stop signal at stands = subst (StandsWithin Whole p pid) at stands
+trap_stands : (reach : Mode) (p : Physical) (pid : ℕ) (stop : Stop) (signal : ℕ) → stop ≡ Trap signal → StandsWithin reach p pid stop → StandsIn p pid (Trap signal)
+trap_stands Halt p pid stop signal at stands = subst (StandsWithin Halt p pid) at stands
+trap_stands GoOn p pid stop signal at stands = subst (StandsWithin GoOn p pid) at stands
 
 -- ---- a call
 
@@ -165,19 +165,19 @@ call_first a old new pid s stands none x = first_answered a old new pid (called 
 
 -- ---- a trap, and an access that is refused
 
-module _ (headers : List (List ℕ)) (a : About) (reach : Reach) (old : Kept) (pid : ℕ) (stop : Stop) (strayed : has_stray old.notes ≡ is_whole reach)
-    (stands : reach ≡ Own → StandsAt (world_of a old) pid stop) (stands_in : StandsWithin reach (physical_of headers a old) pid stop) where
+module _ (headers : List (List ℕ)) (a : About) (reach : Mode) (old : Kept) (pid : ℕ) (stop : Stop) (strayed : has_stray old.notes ≡ is_whole reach)
+    (stands : reach ≡ Halt → StandsAt (world_of a old) pid stop) (stands_in : StandsWithin reach (physical_of headers a old) pid stop) where
   abbrev from : Physical
   from = physical_of headers a old
 
   -- it isn't the run's first stray access where it goes in the private spaces
-  first_none : (o : Outcome) → (reach ≡ Own → (event (world_of a old) pid ≡ o) × (stray_in o ≡ None)) → first_stray_in from pid ≡ None
+  first_none : (o : Outcome) → (reach ≡ Halt → (event (world_of a old) pid ≡ o) × (stray_in o ≡ None)) → first_stray_in from pid ≡ None
   unfolding physical_of
   first_none o goes_own = by reach refl
     where
-      by : (r : Reach) → reach ≡ r → first_stray_in from pid ≡ None
-      by Own is = let x = goes_own is in calm from pid o x.0 x.1
-      by Whole is = noted_unstrayed from pid (notes_in headers a old old pid ∙ strayed ∙ ap is_whole is)
+      by : (r : Mode) → reach ≡ r → first_stray_in from pid ≡ None
+      by Halt is = let x = goes_own is in calm from pid o x.0 x.1
+      by GoOn is = noted_unstrayed from pid (notes_in headers a old old pid ∙ strayed ∙ ap is_whole is)
 
   -- ---- a trap
 
@@ -203,8 +203,8 @@ module _ (headers : List (List ℕ)) (a : About) (reach : Reach) (old : Kept) (p
   died_never now (no_room p) access x = absurd x
   died_never now nobody access x = absurd x
 
-  pub refused_in : (access : Access) (new : Kept) → stop ≡ Refused access → (r : Result After AllocError) → (reach ≡ Own → (r ≡ Ok (after.Strays access)) × (new ≡ old))
-      → (reach ≡ Whole → CarriedIn headers a (died_in from pid outside) old new pid r) → CarriedWithin headers a old new pid r
+  pub refused_in : (access : Access) (new : Kept) → stop ≡ Refused access → (r : Result After AllocError) → (reach ≡ Halt → (r ≡ Ok (after.Strays access)) × (new ≡ old))
+      → (reach ≡ GoOn → CarriedIn headers a (died_in from pid outside) old new pid r) → CarriedWithin headers a old new pid r
   unfolding physical_of
   refused_in access new at r strayed_so memory = by reach refl stands_in
     where
@@ -215,18 +215,18 @@ module _ (headers : List (List ℕ)) (a : About) (reach : Reach) (old : Kept) (p
       never (Ok after.LogFull) x y = y
       never (Err error) x y = y
 
-      by : (t : Reach) → reach ≡ t → StandsWithin t from pid stop → CarriedWithin headers a old new pid r
-      by Own own x =
+      by : (t : Mode) → reach ≡ t → StandsWithin t from pid stop → CarriedWithin headers a old new pid r
+      by Halt own x =
           let so = strayed_so own in
           subst (CarriedWithin headers a old new pid) (sym so.0)
           (strays_first from pid access (notes_in headers a old old pid ∙ strayed ∙ ap is_whole own) (event_strays (world_of a old) pid access (subst (StandsAt (world_of a old) pid) at (stands own))), so.1)
-      by Whole is x =
-          let s : StandsIn from pid (Refused access) = subst (StandsWithin Whole from pid) at x in
+      by GoOn is x =
+          let s : StandsIn from pid (Refused access) = subst (StandsWithin GoOn from pid) at x in
           let none = noted_unstrayed from pid (notes_in headers a old old pid ∙ strayed ∙ ap is_whole is) in
           let same : event_in from pid ≡ died_in from pid outside = event_in_calm from pid none ∙ carried_refused from pid s.process s.space s.lives s.has access s.means in
           never r (memory is) (subst (λ (o : Outcome_in). CarriedIn headers a o old new pid r) (sym same) (memory is))
 
-pub trap_fits_in : (reach : Reach) (a : About) (old : Kept) (pid : ℕ) (stop : Stop) (signal : ℕ) → stop ≡ Trap signal → StandsWithin reach (physical_of [] a old) pid stop → signal < 2 ^ 8
+pub trap_fits_in : (reach : Mode) (a : About) (old : Kept) (pid : ℕ) (stop : Stop) (signal : ℕ) → stop ≡ Trap signal → StandsWithin reach (physical_of [] a old) pid stop → signal < 2 ^ 8
 trap_fits_in reach a old pid stop signal at stands =
     let s = trap_stands reach (physical_of [] a old) pid stop signal at stands in
     trap_small s.process.regs (physical_of [] a old).memory (in_memory (physical_of [] a old).world) signal s.means

@@ -20,8 +20,8 @@ use Rattle.memory_world.specs.Growth.{Adds}
 use Rattle.memory_world.proofs.Growth.{events_add, turns_add}
 use Rattle.memory_world.proofs.Moves.{noted_unstrayed, first_strays}
 use Rattle.memory_world.proofs.TurnsIn.{leads_in_event, turn_in_used}
-use Rattle.kept_parts.specs.declared.reach.Reach.{Reach}
-use Rattle.kept_parts.specs.declared.reach.Reach.TheVariants.{Own, Whole}
+use Rattle.region_watch.specs.declared.mode.Mode.{Mode}
+use Rattle.region_watch.specs.declared.mode.Mode.TheVariants.{Halt, GoOn}
 use Rattle.kept_parts.specs.Copies.{HoldsFiles}
 use Rattle.kept_parts.specs.Flats.{AreFlats}
 use Rattle.kept_parts.specs.Kept.{Kept}
@@ -29,8 +29,6 @@ use Rattle.kept_parts.specs.Regular.{IsRegular}
 use Rattle.kept_parts.specs.Stands.{About, later, world_of}
 use Rattle.kept_parts.specs.InMemory.{headers_of, physical_of, with_range, without_newest}
 use Rattle.kept_parts.proofs.Abouts.{about_with, some_are_flats}
-use Rattle.region_watch.specs.declared.mode.Mode.{Mode}
-use Rattle.region_watch.specs.declared.mode.Mode.TheVariants.{Halt, GoOn}
 use Rattle.syscall_layer.specs.Parts.{RunParts}
 use Rattle.watch_points.specs.declared.hits.Hit.{Hit}
 use Rattle.watch_points.specs.declared.point.PointKind.{PointKind}
@@ -42,6 +40,8 @@ use Rattle.flat_machine.specs.declared.turn.After.TheVariants as after
 use Rattle.flat_machine.specs.State.{is_whole}
 use Rattle.flat_machine.specs.Leaves.{Carried, CarriedOrEnds, CarriedOrPast}
 use Rattle.flat_machine.specs.LeavesIn.{CarriedIn, CarriedWithin, EventIn, StandsWithin}
+use Rattle.flat_machine.specs.ByMode.{GoOnWithin}
+use Rattle.flat_machine.specs.Keeps.{KeepsRun}
 use Rattle.flat_machine.specs.Hits.{turn_hits_in}
 use Rattle.flat_machine.specs.HitsLeft.{HitsLead, EventHits}
 use Rattle.flat_machine.proofs.Picks.{may_run}
@@ -305,16 +305,16 @@ module _ (point : PointKind) (spans : List Span) (pid : ℕ) where
 
 -- ---- where it stands firmly: an access that is refused within its own bytes strays
 
-pub firm : (reach : Reach) (p : Physical) (pid : ℕ) (stop : Stop) → StandsWithin reach p pid stop → (reach ≡ Own → (access : Access) → stop ≡ Refused access → ⊥) → StandsIn p pid stop
-firm Own p pid (Refused access) s other = absurd (other refl access refl)
-firm Own p pid Next s other = s
-firm Own p pid Call s other = s
-firm Own p pid (Trap signal) s other = s
-firm Whole p pid stop s other = s
+pub firm : (reach : Mode) (p : Physical) (pid : ℕ) (stop : Stop) → StandsWithin reach p pid stop → (reach ≡ Halt → (access : Access) → stop ≡ Refused access → ⊥) → StandsIn p pid stop
+firm Halt p pid (Refused access) s other = absurd (other refl access refl)
+firm Halt p pid Next s other = s
+firm Halt p pid Call s other = s
+firm Halt p pid (Trap signal) s other = s
+firm GoOn p pid stop s other = s
 
-pub firm_whole : (reach : Reach) (p : Physical) (pid : ℕ) (stop : Stop) → is_whole reach ≡ true → StandsWithin reach p pid stop → StandsIn p pid stop
-firm_whole Own p pid stop is s = absurd (false≢true is)
-firm_whole Whole p pid stop is s = s
+pub firm_whole : (reach : Mode) (p : Physical) (pid : ℕ) (stop : Stop) → is_whole reach ≡ true → StandsWithin reach p pid stop → StandsIn p pid stop
+firm_whole Halt p pid stop is s = absurd (false≢true is)
+firm_whole GoOn p pid stop is s = s
 
 -- ---- behind the note of the run's first stray access
 
@@ -457,3 +457,12 @@ if_ok T (Err error) x holds is = absurd cc
 -- it changes no copy
 pub noted_holds : (pid : ℕ) (access : Access) (old mid : Kept) → mid ≡ with_range pid (Some access) old → has_stray old.notes ≡ false → IsRegular (without_newest mid) → HoldsFiles mid
 noted_holds pid access old mid note quiet regular = regular.1.hold (ap (λ (k : Kept). has_stray (without_newest k).notes) note ∙ quiet)
+
+-- of the parts: one that strays leaves them as they were
+pub strayed_same : (kind : Kind) (old new : RunParts) (pid : ℕ) (access : Access) → (old.mode ≡ Halt → has_stray old.kept.notes ≡ false)
+    → (old.mode ≡ Halt → (a : About) → a.kind ≡ kind → AreFlats a.programs old.programs → Carried a (event (world_of a old.kept) pid) old.kept new.kept pid (Ok (after.Strays access)))
+    → (old.mode ≡ GoOn → GoOnWithin kind old.programs pid old.kept new.kept (Ok (after.Strays access))) → old.noted ≡ has_stray old.kept.notes → KeepsRun old new
+    → (new ≡ old) × (has_stray old.kept.notes ≡ false)
+strayed_same kind old new pid access halting halts within noted keeps =
+    let so_it_is = stray_same kind old.programs old.kept new.kept pid access old.mode halting halts (λ go. (within go).memory) in
+    (parts_same old new so_it_is.0 keeps.programs keeps.mode (keeps.noted ∙ ap (λ (k : Kept). has_stray k.notes) so_it_is.0 ∙ sym noted), so_it_is.1)

@@ -23,8 +23,7 @@ use Rattle.memory_world.specs.Wider.{IsWithin}
 use Rattle.memory_world.specs.Courses.{LeadsIn}
 use Rattle.memory_world.proofs.TurnsIn.{turn_in_used}
 use Rattle.kept_parts.specs.declared.task.Task.{Task}
-use Rattle.kept_parts.specs.declared.reach.Reach.{Reach}
-use Rattle.kept_parts.specs.declared.reach.Reach.TheVariants.{Own, Whole}
+use Rattle.region_watch.specs.declared.mode.Mode.TheVariants.{Halt, GoOn}
 use Rattle.kept_parts.specs.Kept.{Kept}
 use Rattle.kept_parts.specs.Reach.{Reaches}
 use Rattle.kept_parts.specs.Regular.{IsRegular}
@@ -34,7 +33,7 @@ use Rattle.watch_points.specs.declared.hits.Hit.{Hit}
 use Rattle.watch_points.specs.declared.point.PointKind.{PointKind}
 use Rattle.watch_points.specs.declared.span.Span.{Span}
 use Rattle.watch_points.specs.Points.{Found, hits_in, with_hits}
-use Rattle.flat_machine.specs.State.{is_whole, mode_within}
+use Rattle.flat_machine.specs.State.{is_whole}
 use Rattle.flat_machine.specs.Hits.{turn_hits, turn_hits_in}
 use Rattle.flat_machine.specs.HitsLeft.{HitsLead}
 use Rattle.flat_machine.proofs.Within.{writable_own}
@@ -81,13 +80,13 @@ module _ (kind : PointKind) (spans : List Span) where
 
     -- ---- in the world
 
-    own_asks : Reaches Own (length k.regions) h table → asks ≡ all_asked count (writable_in h.maps) e.value.regs (private_bytes k.mem h)
+    own_asks : Reaches Halt (length k.regions) h table → asks ≡ all_asked count (writable_in h.maps) e.value.regs (private_bytes k.mem h)
     unfolding private_bytes
     own_asks reaches =
         ap (λ (w : ℕ → Bool). all_asked count w e.value.regs (own_bytes table k.mem)) reaches.writes
         ∙ ap (λ (o : ℕ → Bool). all_asked count (writable_in h.maps) e.value.regs (only o (physical k.mem))) reaches.reads
 
-    own_hits : Reaches Own (length k.regions) h table → (a : About) → Leads pid (world_of a k) done (world_of (later done a) new)
+    own_hits : Reaches Halt (length k.regions) h table → (a : About) → Leads pid (world_of a k) done (world_of (later done a) new)
         → (n : ℕ) → turn_hits kind spans pid (done + n) (world_of a k) ≡ hits_in kind spans pid asks ++ turn_hits kind spans pid n (world_of (later done a) new)
     own_hits reaches a leads n =
         let s : LiveSpace = record { id = e.value.space; space = private_of k.mem h } in
@@ -103,7 +102,7 @@ module _ (kind : PointKind) (spans : List Span) where
       abbrev old : Physical
       old = physical_of headers a k
 
-      own_done : Reaches Own (length k.regions) h table → Done pid (in_memory old.world) e.value.regs old.memory done asks
+      own_done : Reaches Halt (length k.regions) h table → Done pid (in_memory old.world) e.value.regs old.memory done asks
       unfolding physical_of private_bytes
       own_done reaches =
           let small = all_alike kind spans pid count (own_in h.maps) (writable_in h.maps) (in_memory old.world) e.value.regs old.memory (writable_own h.maps)
@@ -113,7 +112,7 @@ module _ (kind : PointKind) (spans : List Span) where
           (all_asked count (writable_in h.maps) e.value.regs (private_bytes k.mem h)) done
           (ap (λ (x : Ran). x.done) (sym (left k pid count e h table now regs done stop r (length k.regions) reaches))) small)
 
-      whole_done : Reaches Whole (length k.regions) h table → has_stray k.notes ≡ true → Done pid (in_memory old.world) e.value.regs old.memory done asks
+      whole_done : Reaches GoOn (length k.regions) h table → has_stray k.notes ≡ true → Done pid (in_memory old.world) e.value.regs old.memory done asks
       unfolding physical_of
       whole_done reaches strayed =
           let asks_are : asks ≡ all_asked count (in_memory old.world) e.value.regs old.memory =
@@ -134,32 +133,32 @@ module _ (kind : PointKind) (spans : List Span) where
 
 -- ---- as the code has it
 
-pub record HitsAdvance (kind : PointKind) (spans : List Span) (before found : Found) (reach : Reach) (k now : Kept) (pid done : ℕ) : Type 0 where
-  pub own : reach ≡ Own → (a : About) → HitsLead (turn_hits kind spans pid) before found (world_of a k) done (world_of (later done a) now)
+pub record HitsAdvance (kind : PointKind) (spans : List Span) (before found : Found) (reach : Mode) (k now : Kept) (pid done : ℕ) : Type 0 where
+  pub own : reach ≡ Halt → (a : About) → HitsLead (turn_hits kind spans pid) before found (world_of a k) done (world_of (later done a) now)
   pub memory : (headers : List (List ℕ)) (a : About) → HitsLead (turn_hits_in kind spans pid) before found (physical_of headers a k) done (physical_of headers (later done a) now)
 
-hits_within : (kind : PointKind) (spans : List Span) (before : Found) (reach : Reach) (k : Kept) (pid count : ℕ) (e : Entry Task) (h : Held) (table : List PageOwner) (now : List ℕ) (regs : Regs) (done : ℕ) (stop : Stop)
+hits_within : (kind : PointKind) (spans : List Span) (before : Found) (reach : Mode) (k : Kept) (pid count : ℕ) (e : Entry Task) (h : Held) (table : List PageOwner) (now : List ℕ) (regs : Regs) (done : ℕ) (stop : Stop)
     → Ranged k pid count e h table now regs done stop → Reaches reach (length k.regions) h table → has_stray k.notes ≡ is_whole reach
     → Advances reach k (after k pid e.value regs now done) pid count done stop
     → HitsAdvance kind spans before (with_hits before (hits_in kind spans pid (all_asked count (owns table true) e.value.regs (own_bytes table k.mem)))) reach k (after k pid e.value regs now done) pid done
-hits_within kind spans before Own k pid count e h table now regs done stop r reaches strayed x = record {
+hits_within kind spans before Halt k pid count e h table now regs done stop r reaches strayed x = record {
   own = λ own a. lead_by (turn_hits kind spans pid) before _ (world_of a k) (world_of (later done a) (after k pid e.value regs now done)) done
       (own_hits kind spans k pid count e h table now regs done stop r reaches a (x.leads own a));
   memory = λ headers a. lead_by (turn_hits_in kind spans pid) before _ (physical_of headers a k) (physical_of headers (later done a) (after k pid e.value regs now done)) done
       (in_hits kind spans k pid count e h table now regs done stop r headers a (own_done kind spans k pid count e h table now regs done stop r headers a reaches) (x.leads_in headers a));
 }
-hits_within kind spans before Whole k pid count e h table now regs done stop r reaches strayed x = record {
+hits_within kind spans before GoOn k pid count e h table now regs done stop r reaches strayed x = record {
   own = λ own. absurd cc;
   memory = λ headers a. lead_by (turn_hits_in kind spans pid) before _ (physical_of headers a k) (physical_of headers (later done a) (after k pid e.value regs now done)) done
       (in_hits kind spans k pid count e h table now regs done stop r headers a (whole_done kind spans k pid count e h table now regs done stop r headers a reaches strayed) (x.leads_in headers a));
 }
 
-pub advance_hits : (kind : PointKind) (spans : List Span) (before found : Found) (reach : Reach) (k : Kept) (pid count : ℕ) (task : Task) (x : Option Held) (h : Held) (mode : Mode) (table seen : List PageOwner)
+pub advance_hits : (kind : PointKind) (spans : List Span) (before found : Found) (reach : Mode) (k : Kept) (pid count : ℕ) (task : Task) (x : Option Held) (h : Held) (mode : Mode) (table seen : List PageOwner)
     (was now : List ℕ) (regs : Regs) (done : ℕ) (stop : Stop)
     → found ≡ with_hits before (hits_in kind spans pid (all_asked count (passes mode seen true) task.regs (passed_bytes mode seen was)))
     → Advances reach k (after k pid task regs now done) pid count done stop
     → IsRegular k → has_stray k.notes ≡ is_whole reach → value_at k.procs pid ≡ Some task → x ≡ get_or k.spaces task.space x → x ≡ Some h
-    → owns table false ≡ own_in h.maps → owns table true ≡ writable_in h.maps → length table ≡ h.pages → mode ≡ mode_within reach → seen ≡ table → was ≡ k.mem
+    → owns table false ≡ own_in h.maps → owns table true ≡ writable_in h.maps → length table ≡ h.pages → mode ≡ reach → seen ≡ table → was ≡ k.mem
     → ran regs (passed_bytes mode seen now) done stop ≡ instructions count (passes mode seen true) task.regs (passed_bytes mode seen was)
     → kept_bytes mode seen now ≡ kept_bytes mode seen was → length now ≡ length was → HitsAdvance kind spans before found reach k (after k pid task regs now done) pid done
 advance_hits kind spans before found reach k pid count task x h mode table seen was now regs done stop follow advanced regular strayed is at space own writes long within sees old leaves same stays =

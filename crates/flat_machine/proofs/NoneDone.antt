@@ -23,9 +23,7 @@ use Rattle.machine_world.specs.Recordings.{is_recorded, raised_in}
 use Rattle.machine_world.proofs.Raised.{raised_none}
 use Rattle.machine_world.proofs.States.{change_same}
 use Rattle.kept_parts.specs.declared.task.Task.{Task}
-use Rattle.kept_parts.specs.declared.reach.Reach.{Reach}
 use Rattle.kept_parts.specs.Kept.{Kept}
-use Rattle.flat_machine.specs.State.{mode_within}
 use Rattle.flat_machine.proofs.Passed.{as_table, owned_ran, owned_frozen}
 use Rattle.flat_machine.proofs.Advanced.{after, entered}
 
@@ -99,8 +97,8 @@ none_done_owned k pid count task table was now regs done stop is before leaves r
     ap (raised_in k.recording task.space) none ∙ raised_none (is_recorded k.recording task.space) k.recording.events in
     λ i. record k { mem = mem i; procs = procs i; recording = record k.recording { events = events i } }
 
-pub none_done : (reach : Reach) (k : Kept) (pid count : ℕ) (task : Task) (h : Held) (mode : Mode) (table seen : List PageOwner) (was now : List ℕ) (regs : Regs) (done : ℕ) (stop : Stop)
-    → value_at k.procs pid ≡ Some task → owns table false ≡ own_in h.maps → owns table true ≡ writable_in h.maps → mode ≡ mode_within reach → seen ≡ table → was ≡ k.mem
+pub none_done : (reach : Mode) (k : Kept) (pid count : ℕ) (task : Task) (h : Held) (mode : Mode) (table seen : List PageOwner) (was now : List ℕ) (regs : Regs) (done : ℕ) (stop : Stop)
+    → value_at k.procs pid ≡ Some task → owns table false ≡ own_in h.maps → owns table true ≡ writable_in h.maps → mode ≡ reach → seen ≡ table → was ≡ k.mem
     → ran regs (passed_bytes mode seen now) done stop ≡ instructions count (passes mode seen true) task.regs (passed_bytes mode seen was)
     → kept_bytes mode seen now ≡ kept_bytes mode seen was → done ≡ 0 → after k pid task regs now done ≡ k
 none_done reach k pid count task h mode table seen was now regs done stop is own writes within sees before leaves rest none =

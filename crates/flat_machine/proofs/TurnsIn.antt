@@ -18,8 +18,8 @@ use Rattle.machine_world.specs.Courses.{EndsAs, StandsAt}
 use Rattle.memory_world.specs.Physical.{Physical, has_stray, next_meaning, turn_in, remains_at_in}
 use Rattle.memory_world.specs.Courses.{LeadsIn, StandsIn}
 use Rattle.memory_world.proofs.TurnsIn.{leads_in_none, leads_in_on, turn_in_over, turn_in_full, turn_in_used, turn_in_from}
-use Rattle.kept_parts.specs.declared.reach.Reach.{Reach}
-use Rattle.kept_parts.specs.declared.reach.Reach.TheVariants.{Own, Whole}
+use Rattle.region_watch.specs.declared.mode.Mode.{Mode}
+use Rattle.region_watch.specs.declared.mode.Mode.TheVariants.{Halt, GoOn}
 use Rattle.kept_parts.specs.Reach.{reach_of}
 use Rattle.kept_parts.specs.Flats.{AreFlats}
 use Rattle.kept_parts.specs.Kept.{Kept}
@@ -40,24 +40,24 @@ stands_so_in : (headers : List (List ℕ)) (a b : About) (k : Kept) (pid : ℕ) 
 unfolding physical_of world_of
 stands_so_in headers a b k pid stop s = record { process = s.process; space = s.space; lives = s.lives; has = s.has; means = s.means }
 
-stands_within : (reach : Reach) (headers : List (List ℕ)) (a b : About) (k : Kept) (pid : ℕ) (stop : Stop) → StandsWithin reach (physical_of headers a k) pid stop
+stands_within : (reach : Mode) (headers : List (List ℕ)) (a b : About) (k : Kept) (pid : ℕ) (stop : Stop) → StandsWithin reach (physical_of headers a k) pid stop
     → StandsWithin reach (physical_of headers b k) pid stop
-stands_within Own headers a b k pid (Refused access) s = tt
-stands_within Own headers a b k pid Next s = stands_so_in headers a b k pid Next s
-stands_within Own headers a b k pid Call s = stands_so_in headers a b k pid Call s
-stands_within Own headers a b k pid (Trap signal) s = stands_so_in headers a b k pid (Trap signal) s
-stands_within Whole headers a b k pid stop s = stands_so_in headers a b k pid stop s
+stands_within Halt headers a b k pid (Refused access) s = tt
+stands_within Halt headers a b k pid Next s = stands_so_in headers a b k pid Next s
+stands_within Halt headers a b k pid Call s = stands_so_in headers a b k pid Call s
+stands_within Halt headers a b k pid (Trap signal) s = stands_so_in headers a b k pid (Trap signal) s
+stands_within GoOn headers a b k pid stop s = stands_so_in headers a b k pid stop s
 
-pub all_within : (reach : Reach) (p : Physical) (pid most done : ℕ) (stop : Stop) → stop ≡ Next → HaltsWithin reach p pid most done stop → done ≡ most
+pub all_within : (reach : Mode) (p : Physical) (pid most done : ℕ) (stop : Stop) → stop ≡ Next → HaltsWithin reach p pid most done stop → done ≡ most
 all_within reach p pid most done stop is h = let P : Stop → Type 0 = HaltsWithin reach p pid most done in subst P is h
 
-at_within : (reach : Reach) (p : Physical) (pid most done : ℕ) (stop : Stop) → stop ≢ Next → HaltsWithin reach p pid most done stop → (done < most) × StandsWithin reach p pid stop
+at_within : (reach : Mode) (p : Physical) (pid most done : ℕ) (stop : Stop) → stop ≢ Next → HaltsWithin reach p pid most done stop → (done < most) × StandsWithin reach p pid stop
 at_within reach p pid most done Next other h = absurd (other refl)
 at_within reach p pid most done Call other h = h
 at_within reach p pid most done (Trap signal) other h = h
 at_within reach p pid most done (Refused access) other h = h
 
-module _ (reach : Reach) (now : Kept) (pid most done : ℕ) (stop : Stop) (other : stop ≢ Next)
+module _ (reach : Mode) (now : Kept) (pid most done : ℕ) (stop : Stop) (other : stop ≢ Next)
     (halts : (headers : List (List ℕ)) (a : About) → HaltsWithin reach (physical_of headers (later done a) now) pid most done stop) where
   pub less_within : done < most
   less_within = (at_within reach (physical_of [] (later done some_about) now) pid most done stop other (halts [] some_about)).0
@@ -67,9 +67,9 @@ module _ (reach : Reach) (now : Kept) (pid most done : ℕ) (stop : Stop) (other
       stands_within reach headers (later done a) a now pid stop (at_within reach (physical_of headers (later done a) now) pid most done stop other (halts headers a)).1
 
 -- within its own bytes none was noted
-pub own_of : (reach : Reach) → is_whole reach ≡ false → reach ≡ Own
-own_of Own is = refl
-own_of Whole is = absurd (false≢true (sym is))
+pub own_of : (reach : Mode) → is_whole reach ≡ false → reach ≡ Halt
+own_of Halt is = refl
+own_of GoOn is = absurd (false≢true (sym is))
 
 -- all of memory is reached just where one was noted
 pub reach_noted : (noted : Bool) → is_whole (reach_of noted) ≡ noted
@@ -80,10 +80,10 @@ reach_noted false = refl
 pub marked_reach : (k : Kept) (noted : Bool) → noted ≡ has_stray k.notes → has_stray k.notes ≡ is_whole (reach_of noted)
 marked_reach k noted is = sym is ∙ sym (reach_noted noted)
 
-pub own_quiet : (k : Kept) (noted : Bool) → noted ≡ has_stray k.notes → reach_of noted ≡ Own → has_stray k.notes ≡ false
+pub own_quiet : (k : Kept) (noted : Bool) → noted ≡ has_stray k.notes → reach_of noted ≡ Halt → has_stray k.notes ≡ false
 own_quiet k noted is own = marked_reach k noted is ∙ ap is_whole own
 
-pub whole_noted : (k : Kept) (noted : Bool) → noted ≡ has_stray k.notes → reach_of noted ≡ Whole → has_stray k.notes ≡ true
+pub whole_noted : (k : Kept) (noted : Bool) → noted ≡ has_stray k.notes → reach_of noted ≡ GoOn → has_stray k.notes ≡ true
 whole_noted k noted is whole = marked_reach k noted is ∙ ap is_whole whole
 
 -- ---- what isn't carried out
@@ -120,11 +120,11 @@ still_whole p pid stop noted s = record {
 }
 
 -- within reach it stands still
-pub still_within : (reach : Reach) (headers : List (List ℕ)) (a : About) (k : Kept) (pid : ℕ) (stop : Stop) → has_stray k.notes ≡ is_whole reach → (reach ≡ Own → StandsAt (world_of a k) pid stop)
+pub still_within : (reach : Mode) (headers : List (List ℕ)) (a : About) (k : Kept) (pid : ℕ) (stop : Stop) → has_stray k.notes ≡ is_whole reach → (reach ≡ Halt → StandsAt (world_of a k) pid stop)
     → StandsWithin reach (physical_of headers a k) pid stop → StandsStillIn (physical_of headers a k) pid
 unfolding physical_of world_of
-still_within Own headers a k pid stop strayed own within = still_own (physical_of headers a k) pid stop strayed (own refl)
-still_within Whole headers a k pid stop strayed own within = still_whole (physical_of headers a k) pid stop strayed within
+still_within Halt headers a k pid stop strayed own within = still_own (physical_of headers a k) pid stop strayed (own refl)
+still_within GoOn headers a k pid stop strayed own within = still_whole (physical_of headers a k) pid stop strayed within
 
 -- ---- behind so many events of a process
 
@@ -197,3 +197,11 @@ module _ (kind : Kind) (flats : List Values) (pid : ℕ) (old mid new : Kept) wh
       walked = turn_in_used pid (shown a old) (shown (later n a) mid) n (reached a so are) ∙ ap (λ (k : Kept). remains_at_in (shown (later n a) k) None) (sym same);
       still = subst (λ (k : Kept). StandsStillIn (shown (later n a) k) pid) (sym same) (still (later n a));
     }
+
+-- who stands at a step that ends so isn't at an instruction that is carried out
+next_by : (reach : Mode) (p : Physical) (pid : ℕ) → StandsWithin reach p pid Next → ⊥
+next_by Halt p pid s = s.means
+next_by GoOn p pid s = s.means
+
+pub never_next : (reach : Mode) (p : Physical) (pid : ℕ) (stop : Stop) → stop ≡ Next → StandsWithin reach p pid stop → ⊥
+never_next reach p pid stop is s = let P : Stop → Type 0 = StandsWithin reach p pid in next_by reach p pid (subst P is s)

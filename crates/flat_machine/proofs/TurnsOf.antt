@@ -1,10 +1,8 @@
 -- What holds of a machine behind a turn.
-use Rattle.std.proofs.Common.{◌≡◌, ℕ, inl, inr, false, List, length, Option, Some, None, Result, Ok, Err, refl, sym, subst, ◌∙◌}
+use Rattle.std.proofs.Common.{◌≡◌, ℕ, inl, inr, false, length, Option, Some, None, Result, Ok, Err, refl, sym, subst, ◌∙◌}
 use Rattle.std.specs.declared.alloc.AllocError.{AllocError}
 use Rattle.std.proofs.lemmas.Bool.{false≢true, cases_Bool}
 use Rattle.byte_words.specs.declared.access.Access.{Access}
-use Rattle.page_runs.specs.declared.place.Kind.{Kind}
-use Rattle.bflt_format.specs.Values.{Values}
 use Rattle.vfork_exec.specs.Procs.{CanRun}
 use Rattle.machine_world.specs.World.{World}
 use Rattle.machine_world.specs.Programs.{AreLoaded}
@@ -17,13 +15,16 @@ use Rattle.kept_parts.specs.Flats.{AreFlats}
 use Rattle.kept_parts.specs.Kept.{Kept}
 use Rattle.kept_parts.specs.Stands.{About, later, world_of}
 use Rattle.kept_parts.specs.InMemory.{headers_of, physical_of}
+use Rattle.watch_points.specs.Points.{Found}
 use Rattle.region_watch.specs.declared.mode.Mode.{Mode}
 use Rattle.region_watch.specs.declared.mode.Mode.TheVariants.{Halt, GoOn}
 use Rattle.flat_machine.specs.declared.run.End.{End as Told}
 use Rattle.flat_machine.specs.declared.run.End.TheVariants as told
 use Rattle.flat_machine.specs.State.{State, world}
 use Rattle.flat_machine.specs.LeavesIn.{TurnStopsIn, TurnLeavesIn, is_stray}
+use Rattle.flat_machine.specs.RunsIn.{IsHalting}
 use Rattle.flat_machine.specs.ByMode.{HaltTurn, GoOnTurn}
+use Rattle.flat_machine.specs.Hooks.{Given}
 use Rattle.flat_machine.proofs.NotedIn.{adds_stray}
 use Rattle.flat_machine.proofs.Rounds.{turn_loads, turn_ordered}
 
@@ -61,23 +62,23 @@ module _ (pid count done : ℕ) (old new : Physical) where
   turn_adds_in (Err error) x = subst (λ (w : WalkIn). Adds old.world w.now.world) x.walked (turns_add done pid old)
 
 -- by what becomes of the run at its first stray access
-module _ (kind : Kind) (flats : List Values) (a : About) (so : a.kind ≡ kind) (are : AreFlats a.programs flats) (pid count done : ℕ) (old new : Kept) (r : Result (Option Told) AllocError) where
-  loads_in : (n : ℕ) → length a.programs ≡ n → GoOnTurn kind flats pid count old done new r → AreLoaded n old.notes → AreLoaded n new.notes
+module _ (run : Given) (a : About) (so : a.kind ≡ run.kind) (are : AreFlats a.programs run.flats) (pid count done : ℕ) (old : Kept) (before : Found) (new : Kept) (found : Found) (r : Result (Option Told) AllocError) where
+  loads_in : (n : ℕ) → length a.programs ≡ n → GoOnTurn run pid count old before done new found r → AreLoaded n old.notes → AreLoaded n new.notes
   unfolding physical_of world_of
   loads_in n count_is turn are_old =
       subst (λ (m : ℕ). AreLoaded m new.notes) count_is
-      (turn_loads_in pid count done (physical_of (headers_of flats) a old) (physical_of (headers_of flats) (later done a) new) r (turn.memory a so are) (subst (λ (m : ℕ). AreLoaded m old.notes) (sym count_is) are_old))
+      (turn_loads_in pid count done (physical_of (headers_of run.flats) a old) (physical_of (headers_of run.flats) (later done a) new) r (turn.memory a so are) (subst (λ (m : ℕ). AreLoaded m old.notes) (sym count_is) are_old))
 
-  quiet_in : GoOnTurn kind flats pid count old done new r → has_stray new.notes ≡ false → has_stray old.notes ≡ false
+  quiet_in : GoOnTurn run pid count old before done new found r → has_stray new.notes ≡ false → has_stray old.notes ≡ false
   unfolding physical_of world_of
   quiet_in turn quiet = elim (cases_Bool (has_stray old.notes)) [
     | inl was ↦
-        let adds = turn_adds_in pid count done (physical_of (headers_of flats) a old) (physical_of (headers_of flats) (later done a) new) r (turn.memory a so are) in
-        absurd (false≢true (sym quiet ∙ adds_stray (physical_of (headers_of flats) a old).world (physical_of (headers_of flats) (later done a) new).world adds was))
+        let adds = turn_adds_in pid count done (physical_of (headers_of run.flats) a old) (physical_of (headers_of run.flats) (later done a) new) r (turn.memory a so are) in
+        absurd (false≢true (sym quiet ∙ adds_stray (physical_of (headers_of run.flats) a old).world (physical_of (headers_of run.flats) (later done a) new).world adds was))
     | inr none ↦ none
   ]
 
-  module _ (mode : Mode) (halts : mode ≡ Halt → HaltTurn kind flats pid count old done new r) (goes_on : mode ≡ GoOn → GoOnTurn kind flats pid count old done new r) where
+  module _ (mode : Mode) (halts : mode ≡ Halt → HaltTurn run pid count old before done new found r) (goes_on : mode ≡ GoOn → GoOnTurn run pid count old before done new found r) where
     pub loads_behind : (n : ℕ) → length a.programs ≡ n → AreLoaded n old.notes → AreLoaded n new.notes
     loads_behind n count_is are_old = by mode refl
       where
@@ -98,7 +99,7 @@ module _ (kind : Kind) (flats : List Values) (a : About) (so : a.kind ≡ kind) 
             turn_ordered a (later done a) pid count done old new r (((goes_on go).first before a so are).0 quiet) can (order before)
 
   -- live copies hold their files behind a turn of a run that ends at its first stray access
-  pub turn_holds : HaltTurn kind flats pid count old done new r → (has_stray new.notes ≡ false → HoldsFiles new) → HoldsFiles new
+  pub turn_holds : HaltTurn run pid count old before done new found r → (has_stray new.notes ≡ false → HoldsFiles new) → HoldsFiles new
   turn_holds turn still = by r turn.quiet turn.holds
     where
       by : (t : Result (Option Told) AllocError) → (is_stray t ≡ false → has_stray new.notes ≡ false) → ((access : Access) → t ≡ Ok (Some (told.Stray access)) → HoldsFiles new) → HoldsFiles new
@@ -114,3 +115,8 @@ module _ (kind : Kind) (flats : List Values) (a : About) (so : a.kind ≡ kind) 
 pub noted_state : (s : State) → has_stray (world s).notes ≡ has_stray s.kept.notes
 unfolding world_of
 noted_state s = refl
+
+-- one that ends at its first stray access and noted none
+pub halting_state : (s : State) → s.mode ≡ Halt → has_stray s.kept.notes ≡ false → IsHalting s
+unfolding world_of
+halting_state s halts quiet = record { halts = halts; quiet = quiet }

@@ -31,8 +31,9 @@ use Rattle.flat_machine.specs.declared.turn.After.TheVariants as after
 use Rattle.flat_machine.specs.Leaves.{Carried}
 use Rattle.flat_machine.specs.LeavesIn.{StandsStillIn, GoesPast}
 use Rattle.flat_machine.specs.ByMode.{HaltEvent, GoOnEvent, HaltTurn, GoOnTurn}
+use Rattle.flat_machine.specs.Hooks.{Given, given}
 use Rattle.flat_machine.specs.Hits.{turn_hits, turn_hits_in}
-use Rattle.flat_machine.specs.HitsLeft.{HitsLead, EventHits, TurnHits}
+use Rattle.flat_machine.specs.HitsLeft.{HitsLead}
 use Rattle.flat_machine.proofs.EventsOn.{NotStray, of_ends, adds_event, goes_other, ends_other, full_other}
 use Rattle.flat_machine.proofs.Turned.{Reached, reached_none, reached_on, ready_on, event_on, turn_all, turn_ends, turn_stops_full, turn_stops_stray, turn_fails}
 use Rattle.flat_machine.proofs.TurnsIn.{ReachedIn, reached_in_none, reached_in_on, quiet_on, quiet_ends, turn_all_in, turn_ends_in, turn_stops_in, turn_fails_in}
@@ -49,19 +50,19 @@ less_most : {n count : ℕ} → n < count → n ≤ count
 less_most less = omega (arith, less)
 
 -- an event of a run that goes on never tells a stray access
-pub goes_on_strays : (kind : Kind) (flats : List Values) (pid : ℕ) (old new : Kept) (access : Access) → GoOnEvent kind flats pid old new (Ok (after.Strays access)) → ⊥
-goes_on_strays kind flats pid old new access e = e.memory (about_with kind flats) refl (some_are_flats flats)
+pub goes_on_strays : (run : Given) (pid : ℕ) (old : Kept) (before : Found) (new : Kept) (found : Found) (access : Access) → GoOnEvent run pid old before new found (Ok (after.Strays access)) → ⊥
+goes_on_strays run pid old before new found access e = e.whole.memory (about_with run.kind run.flats) refl (some_are_flats run.flats)
 
 -- who goes on may run
-pub ready_by_mode : (kind : Kind) (flats : List Values) (pid : ℕ) (old new : Kept) (mode : Mode) → (mode ≡ Halt → HaltEvent kind flats pid old new (Ok after.GoesOn))
-    → (mode ≡ GoOn → GoOnEvent kind flats pid old new (Ok after.GoesOn)) → CanRun new.procs pid
-ready_by_mode kind flats pid old new Halt halts goes_on =
-    let b = about_with kind flats in
+pub ready_by_mode : (run : Given) (pid : ℕ) (old : Kept) (before : Found) (new : Kept) (found : Found) (mode : Mode)
+    → (mode ≡ Halt → HaltEvent run.kind run.flats pid old before new found (Ok after.GoesOn)) → (mode ≡ GoOn → GoOnEvent run pid old before new found (Ok after.GoesOn)) → CanRun new.procs pid
+ready_by_mode run pid old before new found Halt halts goes_on =
+    let b = about_with run.kind run.flats in
     let e = halts refl in
-    ready_on old new pid b (event (world_of b old) pid) (of_ends b old new pid (event (world_of b old) pid) after.GoesOn goes_other (e.carried b refl (some_are_flats flats)))
-ready_by_mode kind flats pid old new GoOn halts goes_on =
+    ready_on old new pid b (event (world_of b old) pid) (of_ends b old new pid (event (world_of b old) pid) after.GoesOn goes_other (e.carried b refl (some_are_flats run.flats)))
+ready_by_mode run pid old before new found GoOn halts goes_on =
     let e = goes_on refl in
-    (e.memory (about_with kind flats) refl (some_are_flats flats)).1
+    (e.whole.memory (about_with run.kind run.flats) refl (some_are_flats run.flats)).1
 
 -- out of memory no hit was found
 pub hits_same : (kind : Kind) (flats : List Values) (before found : Found) → ((a : About) → a.kind ≡ kind → AreFlats a.programs flats → found ≡ before) → found ≡ before
@@ -73,6 +74,10 @@ module _ (kind : Kind) (flats : List Values) (point : PointKind) (spans : List S
 
   abbrev T_in : ℕ → Physical → List Hit
   T_in = turn_hits_in point spans pid
+
+  -- what the run is given
+  abbrev run : Given
+  run = given kind (record { point = point; spans = spans }) flats
 
   abbrev shown : About → Kept → Physical
   shown = physical_of (headers_of flats)
@@ -99,20 +104,17 @@ module _ (kind : Kind) (flats : List Values) (point : PointKind) (spans : List S
     quiet = notes ∙ x.quiet;
   }
 
-  pub halt_all : (n count : ℕ) (found : Found) (now : Kept) → HaltReached n found now → n ≡ count → HaltTurn kind flats pid count old n now (Ok None)
+  pub halt_all : (n count : ℕ) (found : Found) (now : Kept) → HaltReached n found now → n ≡ count → HaltTurn run pid count old before n now found (Ok None)
   halt_all n count found now x all = record {
     leaves = turn_all kind flats pid count old now n x.leads all;
     quiet = λ calm. x.quiet;
     holds = λ access is. absurd cc;
+    hits = turn_hits_all point spans kind flats before found old now pid n count all x.hits;
   }
 
-  pub halt_hits_all : (n count : ℕ) (found : Found) (now : Kept) → HaltReached n found now → n ≡ count → (a : About) → a.kind ≡ kind → AreFlats a.programs flats
-      → TurnHits T before found count (world_of a old) n (Ok None)
-  halt_hits_all n count found now x all = turn_hits_all point spans kind flats before found old now pid n count all x.hits
-
   -- the event behind them
-  module _ (n count : ℕ) (found : Found) (mid : Kept) (x : HaltReached n found mid) (less : n < count) (stop : Stop) (stands : (a : About) → StandsAt (world_of a mid) pid stop) (new : Kept) where
-    carried_by : (r : After) → NotStray r → HaltEvent kind flats pid mid new (Ok r) → (a : About) → a.kind ≡ kind → AreFlats a.programs flats → Carried a (event (world_of a mid) pid) mid new pid (Ok r)
+  module _ (n count : ℕ) (found : Found) (mid : Kept) (x : HaltReached n found mid) (less : n < count) (stop : Stop) (stands : (a : About) → StandsAt (world_of a mid) pid stop) (new : Kept) (now : Found) where
+    carried_by : (r : After) → NotStray r → HaltEvent kind flats pid mid found new now (Ok r) → (a : About) → a.kind ≡ kind → AreFlats a.programs flats → Carried a (event (world_of a mid) pid) mid new pid (Ok r)
     carried_by r other e a so are = of_ends a mid new pid (event (world_of a mid) pid) r other (e.carried a so are)
 
     full_same : (a : About) → Carried a (event (world_of a mid) pid) mid new pid (Ok after.LogFull) → new ≡ mid
@@ -124,18 +126,18 @@ module _ (kind : Kind) (flats : List Values) (point : PointKind) (spans : List S
         by (strays access) y = absurd y
         by idle y = absurd y
 
-    pub halt_event : HaltEvent kind flats pid mid new (Ok after.GoesOn) → (now : Found) → now ≡ found → HaltReached (n + 1) now new
-    halt_event e now same =
+    pub halt_event : HaltEvent kind flats pid mid found new now (Ok after.GoesOn) → HaltReached (n + 1) now new
+    halt_event e =
         let carried = carried_by after.GoesOn goes_other e in
         let b = about_with kind flats in
         record {
           leads = reached_on kind flats pid old mid new n 1 x.leads (event_on mid new pid kind flats carried);
-          hits = subst (λ (f : Found). HitsReached T world_of kind flats before f old (n + 1) new) (sym same)
+          hits = subst (λ (f : Found). HitsReached T world_of kind flats before f old (n + 1) new) (sym e.hits)
               (hits_reached_on T world_of kind flats before found found old mid new n 1 x.hits (event_hits point spans kind flats mid new pid stop stands found carried));
           quiet = quiet_on b mid new pid (event (world_of b mid) pid) refl x.quiet (carried b refl (some_are_flats flats));
         }
 
-    pub halt_over : HaltEvent kind flats pid mid new (Ok after.TurnEnds) → HaltTurn kind flats pid count old (n + 1) new (Ok None)
+    pub halt_over : HaltEvent kind flats pid mid found new now (Ok after.TurnEnds) → HaltTurn run pid count old before (n + 1) new now (Ok None)
     halt_over e =
         let carried = carried_by after.TurnEnds ends_other e in
         let b = about_with kind flats in
@@ -143,16 +145,18 @@ module _ (kind : Kind) (flats : List Values) (point : PointKind) (spans : List S
           leaves = turn_ends kind flats pid count old mid n x.leads less new carried;
           quiet = λ calm. quiet_ends b mid new pid (event (world_of b mid) pid) refl x.quiet (carried b refl (some_are_flats flats));
           holds = λ access is. absurd cc;
+          hits = λ a so are. e.hits ∙ turn_hits_over point spans kind flats mid new pid stop stands before found old n count less x.hits carried a so are;
         }
 
-    pub halt_strays : (seen : Access) → HaltEvent kind flats pid mid new (Ok (after.Strays seen)) → HaltTurn kind flats pid count old n new (Ok (Some (told.Stray seen)))
+    pub halt_strays : (seen : Access) → HaltEvent kind flats pid mid found new now (Ok (after.Strays seen)) → HaltTurn run pid count old before n new now (Ok (Some (told.Stray seen)))
     halt_strays seen e = record {
       leaves = turn_stops_stray kind flats pid count old mid n x.leads less new seen e.carried;
       quiet = λ calm. absurd (false≢true (sym calm));
       holds = λ access is. e.holds seen refl;
+      hits = λ a so are. e.hits ∙ turn_hits_stray point spans kind flats mid new pid stop stands before found old n count less x.hits seen e.carried a so are;
     }
 
-    pub halt_full : HaltEvent kind flats pid mid new (Ok after.LogFull) → HaltTurn kind flats pid count old n new (Ok (Some told.LogFull))
+    pub halt_full : HaltEvent kind flats pid mid found new now (Ok after.LogFull) → HaltTurn run pid count old before n new now (Ok (Some told.LogFull))
     halt_full e =
         let carried = carried_by after.LogFull full_other e in
         let b = about_with kind flats in
@@ -160,30 +164,16 @@ module _ (kind : Kind) (flats : List Values) (point : PointKind) (spans : List S
           leaves = turn_stops_full kind flats pid count old mid n x.leads less new carried;
           quiet = λ calm. ap (λ (k : Kept). has_stray k.notes) (full_same b (carried b refl (some_are_flats flats))) ∙ x.quiet;
           holds = λ access is. absurd cc;
+          hits = λ a so are. e.hits ∙ turn_hits_full point spans kind flats mid new pid stop stands before found old n count less x.hits carried a so are;
         }
 
-    pub halt_fails : new ≡ mid → (error : AllocError) → HaltTurn kind flats pid count old n new (Err error)
-    halt_fails same error = record {
+    pub halt_fails : new ≡ mid → now ≡ found → (error : AllocError) → HaltTurn run pid count old before n new now (Err error)
+    halt_fails same none error = record {
       leaves = turn_fails kind flats pid count old mid n x.leads less new stop stands same error;
       quiet = λ calm. ap (λ (k : Kept). has_stray k.notes) same ∙ x.quiet;
       holds = λ access is. absurd cc;
+      hits = λ a so are. none ∙ turn_hits_fail point spans kind flats before found old mid pid n count error x.hits a so are;
     }
-
-    module _ (now : Found) (same : now ≡ found) where
-      pub halt_hits_over : HaltEvent kind flats pid mid new (Ok after.TurnEnds) → (a : About) → a.kind ≡ kind → AreFlats a.programs flats → TurnHits T before now count (world_of a old) (n + 1) (Ok None)
-      halt_hits_over e a so are =
-          same ∙ turn_hits_over point spans kind flats mid new pid stop stands before found old n count less x.hits (carried_by after.TurnEnds ends_other e) a so are
-
-      pub halt_hits_strays : (seen : Access) → HaltEvent kind flats pid mid new (Ok (after.Strays seen)) → (a : About) → a.kind ≡ kind → AreFlats a.programs flats
-          → TurnHits T before now count (world_of a old) n (Ok (Some (told.Stray seen)))
-      halt_hits_strays seen e a so are = same ∙ turn_hits_stray point spans kind flats mid new pid stop stands before found old n count less x.hits seen e.carried a so are
-
-      pub halt_hits_full : HaltEvent kind flats pid mid new (Ok after.LogFull) → (a : About) → a.kind ≡ kind → AreFlats a.programs flats
-          → TurnHits T before now count (world_of a old) n (Ok (Some told.LogFull))
-      halt_hits_full e a so are = same ∙ turn_hits_full point spans kind flats mid new pid stop stands before found old n count less x.hits (carried_by after.LogFull full_other e) a so are
-
-      pub halt_hits_fails : (error : AllocError) → (a : About) → a.kind ≡ kind → AreFlats a.programs flats → TurnHits T before now count (world_of a old) n (Err error)
-      halt_hits_fails error a so are = same ∙ turn_hits_fail point spans kind flats before found old mid pid n count error x.hits a so are
 
   -- ---- a run that goes on
 
@@ -209,34 +199,35 @@ module _ (kind : Kind) (flats : List Values) (point : PointKind) (spans : List S
     first = λ quiet. first_reached_on kind flats pid old mid new n (x.first quiet) (reached_adds (headers_of flats) pid mid new j (leads (headers_of flats))) j notes (λ still a so are. own still a);
   }
 
-  pub goes_on_all : (n count : ℕ) (found : Found) (now : Kept) → GoOnReached n found now → n ≡ count → GoOnTurn kind flats pid count old n now (Ok None)
+  pub goes_on_all : (n count : ℕ) (found : Found) (now : Kept) → GoOnReached n found now → n ≡ count → GoOnTurn run pid count old before n now found (Ok None)
   unfolding world_of
   goes_on_all n count found now x all = record {
     memory = turn_all_in kind flats pid old now now n count all x.leads;
     first = λ quiet a so are. (λ still. turn_all kind flats pid count old now n ((x.first quiet).quiet still) all a so are, λ was. (x.first quiet).past was a so are count (at_most all));
+    hits = turn_hits_all_in point spans kind flats before found old now pid n count x.hits all;
   }
 
-  pub goes_on_hits_all : (n count : ℕ) (found : Found) (now : Kept) → GoOnReached n found now → n ≡ count → (a : About) → a.kind ≡ kind → AreFlats a.programs flats
-      → TurnHits T_in before found count (physical_of (headers_of flats) a old) n (Ok None)
-  goes_on_hits_all n count found now x all = turn_hits_all_in point spans kind flats before found old now pid n count x.hits all
+  module _ (n count : ℕ) (found : Found) (mid : Kept) (x : GoOnReached n found mid) (less : n < count) (new : Kept) (now : Found) where
+    adds_by : (r : After) → GoOnEvent run pid mid found new now (Ok r) → (a : About) → Adds (world_of a mid) (world_of a new)
+    adds_by r e = adds_event kind flats mid new pid r e.whole.memory
 
-  module _ (n count : ℕ) (found : Found) (mid : Kept) (x : GoOnReached n found mid) (less : n < count) (new : Kept) where
-    adds_by : (r : After) → GoOnEvent kind flats pid mid new (Ok r) → (a : About) → Adds (world_of a mid) (world_of a new)
-    adds_by r e = adds_event kind flats mid new pid r e.memory
-
-    pub goes_on_event : GoOnEvent kind flats pid mid new (Ok after.GoesOn) → (now : Found)
-        → ((a : About) → a.kind ≡ kind → AreFlats a.programs flats → EventHits T_in found now (physical_of (headers_of flats) a mid) (physical_of (headers_of flats) (later 1 a) new) (Ok after.GoesOn))
-        → GoOnReached (n + 1) now new
-    goes_on_event e now hits = record {
-      leads = reached_in_on kind flats pid old mid new n 1 x.leads (λ a so are. (e.memory a so are).0);
-      hits = hits_reached_on T_in shown kind flats before found now old mid new n 1 x.hits hits;
+    pub goes_on_event : GoOnEvent run pid mid found new now (Ok after.GoesOn) → GoOnReached (n + 1) now new
+    goes_on_event e = record {
+      leads = reached_in_on kind flats pid old mid new n 1 x.leads (λ a so are. (e.whole.memory a so are).0);
+      hits = hits_reached_on T_in shown kind flats before found now old mid new n 1 x.hits e.whole.hits;
       first = λ quiet. first_reached_event kind flats pid old mid new n (x.first quiet) (adds_by after.GoesOn e) e.first;
     }
 
-    pub goes_on_over : GoOnEvent kind flats pid mid new (Ok after.TurnEnds) → GoOnTurn kind flats pid count old (n + 1) new (Ok None)
+    -- the hits of its last event
+    hits_last : ((a : About) → a.kind ≡ kind → AreFlats a.programs flats → (left : ℕ) → now ≡ with_hits found (T_in (suc left) (physical_of (headers_of flats) a mid)))
+        → (a : About) → a.kind ≡ kind → AreFlats a.programs flats → now ≡ with_hits before (T_in count (physical_of (headers_of flats) a old))
+    hits_last last = turn_hits_last_in point spans kind flats before found old mid pid n count x.hits less now last
+
+    pub goes_on_over : GoOnEvent run pid mid found new now (Ok after.TurnEnds) → GoOnTurn run pid count old before (n + 1) new now (Ok None)
     unfolding world_of
     goes_on_over e = record {
-      memory = turn_ends_in kind flats pid old mid new n count less x.leads e.memory;
+      memory = turn_ends_in kind flats pid old mid new n count less x.leads e.whole.memory;
+      hits = hits_last e.whole.hits;
       first = λ quiet a so are.
           let f = x.first quiet in
           let adds = adds_by after.TurnEnds e in (
@@ -246,10 +237,11 @@ module _ (kind : Kind) (flats : List Values) (point : PointKind) (spans : List S
           );
     }
 
-    pub goes_on_full : GoOnEvent kind flats pid mid new (Ok after.LogFull) → GoOnTurn kind flats pid count old n new (Ok (Some told.LogFull))
+    pub goes_on_full : GoOnEvent run pid mid found new now (Ok after.LogFull) → GoOnTurn run pid count old before n new now (Ok (Some told.LogFull))
     unfolding world_of
     goes_on_full e = record {
-      memory = turn_stops_in kind flats pid old mid new n count less x.leads e.memory;
+      memory = turn_stops_in kind flats pid old mid new n count less x.leads e.whole.memory;
+      hits = hits_last e.whole.hits;
       first = λ quiet a so are.
           let f = x.first quiet in
           let adds = adds_by after.LogFull e in (
@@ -260,10 +252,11 @@ module _ (kind : Kind) (flats : List Values) (point : PointKind) (spans : List S
     }
 
     pub goes_on_fails : (stop : Stop) → (has_stray mid.notes ≡ false → (a : About) → StandsAt (world_of a mid) pid stop) → ((a : About) → StandsStillIn (physical_of (headers_of flats) a mid) pid)
-        → new ≡ mid → (error : AllocError) → GoOnTurn kind flats pid count old n new (Err error)
+        → new ≡ mid → now ≡ found → (error : AllocError) → GoOnTurn run pid count old before n new now (Err error)
     unfolding world_of
-    goes_on_fails stop stands still same error = record {
+    goes_on_fails stop stands still same none error = record {
       memory = turn_fails_in kind flats pid old mid new n count less x.leads error same still;
+      hits = turn_hits_fail_in point spans kind flats before found old mid pid n count x.hits now none error;
       first = λ quiet a so are.
           let f = x.first quiet in (
             λ quiet_new. turn_fails kind flats pid count old mid n (f.quiet (was_same quiet_new)) less new stop (stands (was_same quiet_new)) same error a so are,
@@ -273,12 +266,3 @@ module _ (kind : Kind) (flats : List Values) (point : PointKind) (spans : List S
       where
         was_same : has_stray new.notes ≡ false → has_stray mid.notes ≡ false
         was_same quiet = ap (λ (k : Kept). has_stray k.notes) (sym same) ∙ quiet
-
-    -- the hits of its last event
-    pub goes_on_hits_last : (now : Found) → ((a : About) → a.kind ≡ kind → AreFlats a.programs flats → (left : ℕ) → now ≡ with_hits found (T_in (suc left) (physical_of (headers_of flats) a mid)))
-        → (a : About) → a.kind ≡ kind → AreFlats a.programs flats → now ≡ with_hits before (T_in count (physical_of (headers_of flats) a old))
-    goes_on_hits_last now last = turn_hits_last_in point spans kind flats before found old mid pid n count x.hits less now last
-
-    pub goes_on_hits_fails : (now : Found) → now ≡ found → (error : AllocError) → (a : About) → a.kind ≡ kind → AreFlats a.programs flats
-        → TurnHits T_in before now count (physical_of (headers_of flats) a old) n (Err error)
-    goes_on_hits_fails now same error = turn_hits_fail_in point spans kind flats before found old mid pid n count x.hits now same error

@@ -1,16 +1,24 @@
 -- What a boot gives.
-use Rattle.std.specs.Prelude.{◌≡◌, ℕ, List, IfOk, Option, Some, None, Result, Ok, Err, ⊤}
+use Rattle.std.specs.Prelude.{◌≡◌, ◌<◌, ◌≤◌, ℕ, false, Option, Some, None, Result, Ok, Err, ⊤, length, slice_get}
 use Rattle.call_log.specs.declared.errno.Errno.{Errno}
 use Rattle.mem_files.specs.Inodes.{Inodes, program_of}
+use Rattle.page_runs.specs.declared.place.Kind.{Kind}
+use Rattle.manifest_text.specs.declared.manifest.Start.{Start as StartItem}
+use Rattle.vfork_exec.specs.Procs.{count, most_entries}
 use Rattle.machine_world.specs.World.{Rest, World}
-use Rattle.machine_world.specs.Boot.{StartLine, BootFault, bad_start, args_too_big, no_run, empty_world}
+use Rattle.machine_world.specs.Ages.{AreChanged, most_at_boot}
+use Rattle.machine_world.specs.Boot.{BootFault, bad_start, args_too_big, no_run, empty_world}
+use Rattle.memory_world.specs.Physical.{has_stray, opening_in}
+use Rattle.flat_machine.specs.declared.boot.Setup.{Setup}
 use Rattle.flat_machine.specs.declared.boot.BootRefusal.{BootRefusal}
 use Rattle.flat_machine.specs.declared.boot.BootRefusal.TheVariants as refusal
 use Rattle.alone_laws.specs.Stays.{AreRight, first_stays}
 use Rattle.waits_laws.specs.Waits.{WaitsWell}
 use Rattle.kept_parts.specs.Kept.{Kept}
+use Rattle.kept_parts.specs.InMemory.{headers_of}
+use Rattle.kept_parts.specs.Regular.{most_first}
 use Rattle.kept_parts.specs.Stands.{About, world_of}
-use Rattle.flat_machine.specs.State.{State, world}
+use Rattle.flat_machine.specs.State.{State, world, one_memory, rest_of, lines_of}
 
 -- the number of the program that a path leads to
 abbrev pub marked : Inodes → Result (Option ℕ) Errno → Option ℕ
@@ -42,10 +50,31 @@ Begins a (Ok now) new (Err other) = ⊥
 Begins a (Err fault) new (Ok done) = ⊥
 Begins a (Err fault) new (Err refusal) = IsFault fault refusal
 
--- all that wait in the machine's world wait well: none does yet
-abbrev pub BeginsWaits : Result State BootRefusal → Type 0
-BeginsWaits result = IfOk result (λ machine. WaitsWell (world machine))
+-- what a machine may start with: 1 to 16,384 pages; no file was changed more than 2^63 times; each program has a path; and at most 64 start
+-- lines have an argument each
+pub record IsSetup (setup : Setup) : Type 0 where
+  pub some : 1 ≤ setup.pages
+  pub most : setup.pages ≤ 16384
+  pub changes : AreChanged most_at_boot setup.tree
+  pub paths : length setup.paths.items ≡ length setup.programs.items
+  pub starts : length setup.starts.items ≤ 64
+  pub args : (i : ℕ) (s : StartItem) → slice_get setup.starts.items i ≡ Some s → 0 < length s.args.items
 
--- the stays of the start lines are right for the machine's world: a program each, with no call and no event
-abbrev pub BeginsStays : Rest → List StartLine → Result State BootRefusal → Type 0
-BeginsStays rest starts result = IfOk result (λ machine. AreRight (first_stays (empty_world rest) starts) (world machine))
+-- what it starts with of a world, before the first program, in which free runs are chosen so
+abbrev pub rest_by : Kind → Setup → Rest
+rest_by kind setup = rest_of setup.pages kind setup.paths.items setup.programs.items setup.tree setup.stdin.items setup.keep
+
+-- there is room for one more process, its number, and its space
+pub record HasRoom (k : Kept) : Type 0 where
+  pub few : count k.procs < most_entries
+  pub pids : k.procs.next_pid < most_first
+  pub spaces : length k.spaces < most_first
+
+-- a machine that starts so: its one memory is the opening one; it goes on or halts as it was told to, and noted no stray access; none waits
+-- yet, so all that wait do so well; and the stays of the start lines, a program each with no call and no event, are right for its world
+pub record IsOpening (kind : Kind) (setup : Setup) (machine : State) : Type 0 where
+  pub memory : one_memory machine ≡ opening_in (headers_of setup.programs.items) (world machine)
+  pub mode : machine.mode ≡ setup.mode
+  pub quiet : has_stray (world machine).notes ≡ false
+  pub waits : WaitsWell (world machine)
+  pub stays : AreRight (first_stays (empty_world (rest_by kind setup)) (lines_of setup.starts.items)) (world machine)

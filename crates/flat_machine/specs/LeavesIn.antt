@@ -18,8 +18,8 @@ use Rattle.machine_world.specs.Turns.{End, Walk, stray_at, log_full, turn, turns
 use Rattle.memory_world.specs.Physical.{Physical, After as Outcome, after as goes, no_room, has_stray, next_meaning, first_stray_in, event_in, turn_in, turns_in}
 use Rattle.memory_world.specs.Courses.{LeadsIn, ComesIn, StandsIn}
 use Rattle.memory_world.specs.Growth.{Adds}
-use Rattle.kept_parts.specs.declared.reach.Reach.{Reach}
-use Rattle.kept_parts.specs.declared.reach.Reach.TheVariants.{Own}
+use Rattle.region_watch.specs.declared.mode.Mode.{Mode}
+use Rattle.region_watch.specs.declared.mode.Mode.TheVariants.{Halt}
 use Rattle.kept_parts.specs.Kept.{Kept}
 use Rattle.kept_parts.specs.Stands.{About, later}
 use Rattle.kept_parts.specs.InMemory.{physical_of}
@@ -55,12 +55,12 @@ EventIn headers a old new pid (Ok after.LogFull) = event_in (physical_of headers
 EventIn headers a old new pid (Err error) = new ≡ old
 
 -- where a process stands: within its own bytes an access that is refused says nothing of all of memory
-abbrev pub StandsWithin : Reach → Physical → ℕ → Stop → Type 0
-StandsWithin Own p pid (Refused access) = Unit {0}
+abbrev pub StandsWithin : Mode → Physical → ℕ → Stop → Type 0
+StandsWithin Halt p pid (Refused access) = Unit {0}
 StandsWithin reach p pid stop = StandsIn p pid stop
 
 -- of at most so many instructions all were carried out, or the process stands at one that isn't
-abbrev pub HaltsWithin : Reach → Physical → (pid most done : ℕ) → Stop → Type 0
+abbrev pub HaltsWithin : Mode → Physical → (pid most done : ℕ) → Stop → Type 0
 HaltsWithin reach p pid most done Next = done ≡ most
 HaltsWithin reach p pid most done stop = (done < most) × StandsWithin reach p pid stop
 

@@ -4,6 +4,9 @@
 -- Leaves    what an event, a turn and some quanta leave
 -- RunsIn    the same of a run that goes on behind its first stray access, over one memory
 -- ByMode    what an event, a turn and a run leave, by the run's mode
+-- Hooks     what is handed down a run
+-- Keeps     what a step of a run asks, and what each keeps
+-- Steps     what instructions of a process leave
 -- LeavesIn  and of its events and turns
 -- Hits      which accesses of a run hit what is watched
 -- HitsLeft  and what is kept of those of a turn and of a run
@@ -16,6 +19,9 @@ pub mod Leaves
 pub mod LeavesIn
 pub mod RunsIn
 pub mod ByMode
+pub mod Hooks
+pub mod Keeps
+pub mod Steps
 pub mod Hits
 pub mod HitsLeft
 pub mod OwnBytes

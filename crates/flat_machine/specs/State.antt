@@ -14,11 +14,9 @@ use Rattle.machine_world.specs.Boot.{StartLine}
 use Rattle.kept_parts.specs.Kept.{Kept}
 use Rattle.kept_parts.specs.Stands.{About, world_of}
 use Rattle.kept_parts.specs.InMemory.{headers_of, physical_of}
-use Rattle.kept_parts.specs.declared.reach.Reach.{Reach}
-use Rattle.kept_parts.specs.declared.reach.Reach.TheVariants.{Own, Whole}
-use Rattle.memory_world.specs.Physical.{Physical}
 use Rattle.region_watch.specs.declared.mode.Mode.{Mode}
 use Rattle.region_watch.specs.declared.mode.Mode.TheVariants.{Halt, GoOn}
+use Rattle.memory_world.specs.Physical.{Physical}
 
 -- the parts; how free runs are chosen; the paths of the programs, and their flat files; the number of events; what becomes of the run
 -- at its first stray access; and what it reaches, all of memory behind that
@@ -29,7 +27,7 @@ pub record State : Type 0 where
   pub programs : List Values
   pub events : ℕ
   pub mode : Mode
-  pub reach : Reach
+  pub reach : Mode
 
 abbrev pub about_of : State → About
 about_of s = record { kind = s.kind; programs = programs_of s.paths s.programs; events = s.events }
@@ -62,8 +60,3 @@ lines_of starts = map line_of starts
 -- what is known of a run that begins
 abbrev pub about_boot : {Y : Type 0} → Kind → List (Vec ℕ Y) → List Values → About
 about_boot kind paths programs = record { kind = kind; programs = programs_of (paths_of paths) programs; events = 0 }
-
--- a process's own bytes are watched as those of a run that halts, all of memory as those of one that goes on
-abbrev pub mode_within : Reach → Mode
-mode_within Own = Halt
-mode_within Whole = GoOn

@@ -1,18 +1,13 @@
 //! The start of a machine.
 
-ghost use Rattle.std.specs.Prelude.{◌≡◌, ◌<◌, ◌≤◌, ℕ, IfOk, false, Some, slice_get, length};
+ghost use Rattle.std.specs.Prelude.{◌≡◌, ◌<◌, IfOk, length};
 ghost use Rattle.mem_files.specs.Paths.{lookup};
-ghost use Rattle.vfork_exec.specs.Procs.{count, most_entries};
-ghost use Rattle.kept_parts.specs.Regular.{most_first};
-ghost use Rattle.machine_world.specs.Ages.{AreChanged, most_at_boot};
 ghost use Rattle.kept_parts.specs.Stands.{world_of};
 ghost use Rattle.page_runs.specs.Choosers.{IsChooser, kind_of};
 ghost use Rattle.machine_world.specs.Boot.{boot, started};
-ghost use Rattle.manifest_text.specs.declared.manifest.Start.{Start as StartItem};
-ghost use Rattle.memory_world.specs.Physical.{has_stray, opening_in};
 ghost use Rattle.kept_parts.specs.InMemory.{headers_of, LaysOn};
-ghost use Rattle.flat_machine.specs.State.{world, one_memory, rest_of, line_of, lines_of, about_boot};
-ghost use Rattle.flat_machine.specs.Boots.{marked, Boots, Begins, BeginsStays, BeginsWaits};
+ghost use Rattle.flat_machine.specs.State.{line_of, lines_of, about_boot};
+ghost use Rattle.flat_machine.specs.Boots.{marked, rest_by, IsSetup, HasRoom, Boots, Begins, IsOpening};
 
 use crate::machine::Machine;
 use bflt_format::Flat;
@@ -90,9 +85,7 @@ fn begin<F: Fn(&[Run], u32) -> Option<usize>>(
     requires chooser { IsChooser F.pre F.post chooser.now }
     requires paths { length paths.now ≡ length programs.now }
     requires args { 0 < length start.now.args.items }
-    requires few { count parts.old.procs < most_entries }
-    requires pids { parts.old.procs.next_pid < most_first }
-    requires spaces { length parts.old.spaces < most_first }
+    requires room { HasRoom parts.old }
     ensures memory { IfOk result (λ _. LaysOn (headers_of programs.now) parts.old parts.new) }
     ensures begins { let a = about_boot (kind_of chooser.now) paths.now programs.now in
         Begins a (started (world_of a parts.old) (line_of start.now)) parts.new result }
@@ -120,18 +113,9 @@ impl Machine {
         chooser: &Chooser<F>,
     ) -> Result<Machine, BootRefusal>
         requires chooser { IsChooser F.pre F.post chooser.now }
-        requires some { 1 ≤ setup.pages }
-        requires most { setup.pages ≤ 16384 }
-        requires changes { AreChanged most_at_boot setup.tree }
-        requires paths { length setup.paths.items ≡ length setup.programs.items }
-        requires starts { length setup.starts.items ≤ 64 }
-        requires args { (i : ℕ) → (s : StartItem) → slice_get setup.starts.items i ≡ Some s → 0 < length s.args.items }
-        ensures world { Boots (boot (rest_of setup.pages (kind_of chooser.now) setup.paths.items setup.programs.items setup.tree setup.stdin.items setup.keep) (lines_of setup.starts.items)) result }
-        ensures memory { IfOk result (λ machine. one_memory machine ≡ opening_in (headers_of setup.programs.items) (world machine)) }
-        ensures mode { IfOk result (λ machine. machine.mode ≡ setup.mode) }
-        ensures quiet { IfOk result (λ machine. has_stray (world machine).notes ≡ false) }
-        ensures waits { BeginsWaits result }
-        ensures alone { BeginsStays (rest_of setup.pages (kind_of chooser.now) setup.paths.items setup.programs.items setup.tree setup.stdin.items setup.keep) (lines_of setup.starts.items) result }
+        requires setup { IsSetup setup }
+        ensures world { Boots (boot (rest_by (kind_of chooser.now) setup) (lines_of setup.starts.items)) result }
+        ensures opens { IfOk result (IsOpening (kind_of chooser.now) setup) }
     {
         let Setup {
             pages,

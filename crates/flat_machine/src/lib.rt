@@ -7,10 +7,10 @@
 mod advance;
 mod boot;
 mod bytes;
+mod hooks;
 mod machine;
 mod run;
 mod turn;
-mod watcher;
 
 pub use boot::{BootRefusal, Setup};
 pub use machine::Machine;

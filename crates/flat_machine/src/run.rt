@@ -1,34 +1,29 @@
 //! A run by quanta.
 
-ghost use Rattle.std.specs.Prelude.{◌≡◌, ◌+◌, ◌*◌, ◌^◌, ◌<◌, ◌≤◌, false, [], ◌∷◌, sum_by, Some, IfSome};
+ghost use Rattle.std.specs.Prelude.{◌≡◌, ◌*◌, [], ◌∷◌, sum_by, Some, IfSome};
 ghost use Rattle.page_runs.specs.Choosers.{IsChooser, kind_of};
 ghost use Rattle.vfork_exec.specs.Procs.{CanRun};
 ghost use Rattle.quantum_sched.specs.Picked.{picked};
 ghost use Rattle.machine_world.specs.Families.{ready_pids};
 ghost use Rattle.machine_world.specs.Turns.{none_runs, turns};
 ghost use Rattle.kept_parts.specs.Stands.{About, world_of};
-ghost use Rattle.memory_world.specs.Physical.{has_stray};
-ghost use Rattle.region_watch.specs.declared.mode.Mode.TheVariants.{Halt, GoOn};
-ghost use Rattle.flat_machine.specs.State.{world, one_memory};
-ghost use Rattle.kept_parts.specs.Copies.{HoldsFiles};
+ghost use Rattle.region_watch.specs.declared.mode.Mode.TheVariants.{GoOn};
 ghost use Rattle.flat_machine.specs.Runs.{Ends, repeated};
 ghost use Rattle.flat_machine.specs.RunsIn.{IsHalting, RemainsHalted};
-ghost use Rattle.flat_machine.specs.ByMode.{HaltRuns, GoOnRuns};
-ghost use Rattle.flat_machine.specs.Leaves.{Leaves, TurnLeaves};
-ghost use Rattle.flat_machine.specs.LeavesIn.{LeavesIn, LeavesFirst, TurnLeavesIn, TurnFirst, is_stray};
-ghost use Rattle.watch_points.specs.Points.{AreSpans, IsPoint, kind_of_point};
-ghost use Rattle.flat_machine.specs.Hits.{turn_hits, turn_hits_in};
-ghost use Rattle.flat_machine.specs.HitsLeft.{TurnHits, HitsLeave, HitsLeaveIn, HitsFollow, HitsFollowIn, NoneWhereHalted};
+ghost use Rattle.flat_machine.specs.ByMode.{HaltTurnOf, GoOnTurnOf, HaltRound, GoOnRound, HaltRuns, GoOnRuns, HaltWatched, GoOnWatched, RemainsWatched};
+ghost use Rattle.flat_machine.specs.Hooks.{AreHooks};
+ghost use Rattle.flat_machine.specs.Keeps.{RunFits, TurnsFit, CountsTurn, CountsRun};
+ghost use Rattle.watch_points.specs.Watchers.{IsWatcher, Watches, watched_at, watched_by};
 
+use crate::hooks::Hooks;
 use crate::machine::Machine;
 use crate::turn::{TurnEnd, tell_copies, turn};
-use crate::watcher::Watcher;
 use page_runs::{Chooser, Run};
 use quantum_sched::{Quantum, pick};
 use rv32im_step::Access;
 use std::alloc::AllocError;
 use syscall_layer::Parts;
-use watch_points::{Hits, PointKind, Span, WatchPoint, touches};
+use watch_points::{Hits, PointKind, Span, WatchPoint, Watcher, touches};
 
 /// Why a run stops.
 #[derive(Clone, Copy, PartialEq, Eq)]
@@ -81,30 +76,17 @@ impl Machine {
         &mut self,
         pid: u32,
         count: u32,
-        chooser: &Chooser<F>,
-        watcher: &Watcher<'_, G>,
+        hooks: &Hooks<'_, F, G>,
         hits: &mut Hits,
     ) -> TurnEnd
-        requires chooser { IsChooser F.pre F.post chooser.now }
-        requires point { IsPoint G.pre G.post watcher.now.point.now }
-        requires spans { AreSpans watcher.now.spans.now }
+        requires hooks { AreHooks F.pre F.post G.pre G.post hooks.now }
+        requires fits { TurnsFit (kind_of hooks.now.chooser.now) count self.old }
         requires ready { CanRun self.old.kept.procs pid }
-        requires halting { self.old.mode ≡ Halt → has_stray (world self.old).notes ≡ false }
-        requires kind { kind_of chooser.now ≡ self.old.kind }
-        requires events { self.old.events + count < 2 ^ 64 }
-        ensures kind { self.new.kind ≡ self.old.kind }
-        ensures mode { self.new.mode ≡ self.old.mode }
-        ensures events { self.new.events ≡ self.old.events + result.events }
-        ensures within { result.events ≤ count }
-        ensures quiet { IsHalting self.old → is_stray result.end ≡ false → IsHalting self.new }
-        ensures copies { IsHalting self.old → HoldsFiles self.new.kept }
-        ensures leaves { IsHalting self.old → TurnLeaves pid count (world self.old) result.events (world self.new) result.end }
-        ensures memory { self.old.mode ≡ GoOn → TurnLeavesIn pid count (one_memory self.old) result.events (one_memory self.new) result.end }
-        ensures first { self.old.mode ≡ GoOn → has_stray (world self.old).notes ≡ false → TurnFirst pid count (world self.old) result.events (world self.new) result.end }
-        ensures hits { IsHalting self.old → TurnHits (turn_hits (kind_of_point watcher.now.point.now) watcher.now.spans.now pid) hits.old hits.new count (world self.old) result.events result.end }
-        ensures hits_in { self.old.mode ≡ GoOn → TurnHits (turn_hits_in (kind_of_point watcher.now.point.now) watcher.now.spans.now pid) hits.old hits.new count (one_memory self.old) result.events result.end }
+        ensures counts { CountsTurn count self.old result.events self.new }
+        ensures halts { IsHalting self.old → HaltTurnOf (watched_by hooks.now.watcher.now) pid count self.old hits.old result.events self.new hits.new result.end }
+        ensures goes_on { self.old.mode ≡ GoOn → GoOnTurnOf (watched_by hooks.now.watcher.now) pid count self.old hits.old result.events self.new hits.new result.end }
     {
-        let TurnEnd { events, end } = turn(&mut self.parts, pid, count, chooser, watcher, hits);
+        let TurnEnd { events, end } = turn(&mut self.parts, pid, count, hooks, hits);
         self.events += u64::from(events);
         TurnEnd { events, end }
     }
@@ -113,31 +95,19 @@ impl Machine {
     fn take_turn<F: Fn(&[Run], u32) -> Option<usize>, G: Fn(&[Span], u32, u32) -> bool>(
         &mut self,
         quantum: Quantum,
-        chooser: &Chooser<F>,
-        watcher: &Watcher<'_, G>,
+        hooks: &Hooks<'_, F, G>,
         hits: &mut Hits,
     ) -> Result<Option<End>, AllocError>
-        requires chooser { IsChooser F.pre F.post chooser.now }
-        requires point { IsPoint G.pre G.post watcher.now.point.now }
-        requires spans { AreSpans watcher.now.spans.now }
-        requires halting { self.old.mode ≡ Halt → has_stray (world self.old).notes ≡ false }
-        requires kind { kind_of chooser.now ≡ self.old.kind }
-        requires events { self.old.events + quantum.count < 2 ^ 64 }
-        ensures kind { self.new.kind ≡ self.old.kind }
-        ensures mode { self.new.mode ≡ self.old.mode }
-        ensures events { self.new.events ≤ self.old.events + quantum.count }
-        ensures quiet { IsHalting self.old → is_stray result ≡ false → IsHalting self.new }
-        ensures copies { IsHalting self.old → HoldsFiles self.old.kept → HoldsFiles self.new.kept }
-        ensures leaves { IsHalting self.old → Leaves (quantum ∷ []) (world self.old) (world self.new) result }
-        ensures memory { self.old.mode ≡ GoOn → LeavesIn (quantum ∷ []) (one_memory self.old) (one_memory self.new) result }
-        ensures first { self.old.mode ≡ GoOn → has_stray (world self.old).notes ≡ false → LeavesFirst (quantum ∷ []) (world self.old) (world self.new) result }
-        ensures hits { IsHalting self.old → HitsLeave (kind_of_point watcher.now.point.now) watcher.now.spans.now hits.old hits.new (quantum ∷ []) (world self.old) (world self.new) result }
-        ensures hits_in { self.old.mode ≡ GoOn → HitsLeaveIn (kind_of_point watcher.now.point.now) watcher.now.spans.now hits.old hits.new (quantum ∷ []) (one_memory self.old) (one_memory self.new) result }
+        requires hooks { AreHooks F.pre F.post G.pre G.post hooks.now }
+        requires fits { TurnsFit (kind_of hooks.now.chooser.now) quantum.count self.old }
+        ensures keeps { CountsRun quantum.count self.old self.new }
+        ensures halts { IsHalting self.old → HaltRound (watched_by hooks.now.watcher.now) (quantum ∷ []) self.old hits.old self.new hits.new result }
+        ensures goes_on { self.old.mode ≡ GoOn → GoOnRound (watched_by hooks.now.watcher.now) (quantum ∷ []) self.old hits.old self.new hits.new result }
     {
         let Some(pid) = chosen(&self.parts, quantum) else {
             return Ok(Some(none_runs(&self.parts)));
         };
-        let ended = self.turn_of(pid, quantum.count, chooser, watcher, hits);
+        let ended = self.turn_of(pid, quantum.count, hooks, hits);
         ended.end
     }
 
@@ -145,29 +115,17 @@ impl Machine {
     fn round<F: Fn(&[Run], u32) -> Option<usize>, G: Fn(&[Span], u32, u32) -> bool>(
         &mut self,
         quanta: &[Quantum],
-        chooser: &Chooser<F>,
-        watcher: &Watcher<'_, G>,
+        hooks: &Hooks<'_, F, G>,
         hits: &mut Hits,
     ) -> Result<Option<End>, AllocError>
-        requires chooser { IsChooser F.pre F.post chooser.now }
-        requires point { IsPoint G.pre G.post watcher.now.point.now }
-        requires spans { AreSpans watcher.now.spans.now }
-        requires halting { self.old.mode ≡ Halt → has_stray (world self.old).notes ≡ false }
-        requires kind { kind_of chooser.now ≡ self.old.kind }
-        requires events { self.old.events + sum_by (λ q. q.count) quanta.now < 2 ^ 64 }
-        ensures kind { self.new.kind ≡ self.old.kind }
-        ensures mode { self.new.mode ≡ self.old.mode }
-        ensures events { self.new.events ≤ self.old.events + sum_by (λ q. q.count) quanta.now }
-        ensures quiet { IsHalting self.old → is_stray result ≡ false → IsHalting self.new }
-        ensures copies { IsHalting self.old → HoldsFiles self.old.kept → HoldsFiles self.new.kept }
-        ensures leaves { IsHalting self.old → Leaves quanta.now (world self.old) (world self.new) result }
-        ensures memory { self.old.mode ≡ GoOn → LeavesIn quanta.now (one_memory self.old) (one_memory self.new) result }
-        ensures first { self.old.mode ≡ GoOn → has_stray (world self.old).notes ≡ false → LeavesFirst quanta.now (world self.old) (world self.new) result }
-        ensures hits { IsHalting self.old → HitsLeave (kind_of_point watcher.now.point.now) watcher.now.spans.now hits.old hits.new quanta.now (world self.old) (world self.new) result }
-        ensures hits_in { self.old.mode ≡ GoOn → HitsLeaveIn (kind_of_point watcher.now.point.now) watcher.now.spans.now hits.old hits.new quanta.now (one_memory self.old) (one_memory self.new) result }
+        requires hooks { AreHooks F.pre F.post G.pre G.post hooks.now }
+        requires fits { TurnsFit (kind_of hooks.now.chooser.now) (sum_by (λ q. q.count) quanta.now) self.old }
+        ensures keeps { CountsRun (sum_by (λ q. q.count) quanta.now) self.old self.new }
+        ensures halts { IsHalting self.old → HaltRound (watched_by hooks.now.watcher.now) quanta.now self.old hits.old self.new hits.new result }
+        ensures goes_on { self.old.mode ≡ GoOn → GoOnRound (watched_by hooks.now.watcher.now) quanta.now self.old hits.old self.new hits.new result }
     {
         for quantum in quanta {
-            if let Some(end) = self.take_turn(*quantum, chooser, watcher, hits)? {
+            if let Some(end) = self.take_turn(*quantum, hooks, hits)? {
                 return Ok(Some(end));
             }
         }
@@ -182,11 +140,8 @@ impl Machine {
         chooser: &Chooser<F>,
     ) -> Result<End, AllocError>
         requires chooser { IsChooser F.pre F.post chooser.now }
-        requires kind { kind_of chooser.now ≡ self.old.kind }
-        requires events { self.old.events + sum_by (λ q. q.count) quanta.now < 2 ^ 64 }
-        ensures kind { self.new.kind ≡ self.old.kind }
-        ensures mode { self.new.mode ≡ self.old.mode }
-        ensures events { self.new.events ≤ self.old.events + sum_by (λ q. q.count) quanta.now }
+        requires fits { RunFits (kind_of chooser.now) (sum_by (λ q. q.count) quanta.now) self.old }
+        ensures keeps { CountsRun (sum_by (λ q. q.count) quanta.now) self.old self.new }
         ensures halts { IsHalting self.old → HaltRuns quanta.now self.old self.new result }
         ensures goes_on { self.old.mode ≡ GoOn → GoOnRuns quanta.now self.old self.new result }
         ensures halted { RemainsHalted self.old self.new result }
@@ -203,11 +158,8 @@ impl Machine {
         chooser: &Chooser<F>,
     ) -> Result<End, AllocError>
         requires chooser { IsChooser F.pre F.post chooser.now }
-        requires kind { kind_of chooser.now ≡ self.old.kind }
-        requires events { self.old.events + count * sum_by (λ q. q.count) quanta.now < 2 ^ 64 }
-        ensures kind { self.new.kind ≡ self.old.kind }
-        ensures mode { self.new.mode ≡ self.old.mode }
-        ensures events { self.new.events ≤ self.old.events + count * sum_by (λ q. q.count) quanta.now }
+        requires fits { RunFits (kind_of chooser.now) (count * sum_by (λ q. q.count) quanta.now) self.old }
+        ensures keeps { CountsRun (count * sum_by (λ q. q.count) quanta.now) self.old self.new }
         ensures halts { IsHalting self.old → HaltRuns (repeated count quanta.now) self.old self.new result }
         ensures goes_on { self.old.mode ≡ GoOn → GoOnRuns (repeated count quanta.now) self.old self.new result }
         ensures halted { RemainsHalted self.old self.new result }
@@ -216,7 +168,11 @@ impl Machine {
             touches(spans, addr, len)
         });
         let mut hits = Hits::none(*self.paths.allocator());
-        self.run_repeated_watched(quanta, count, chooser, &point, &[], &mut hits)
+        let watcher = Watcher {
+            point: &point,
+            spans: &[],
+        };
+        self.run_repeated_watched(quanta, count, chooser, &watcher, &mut hits)
     }
 
     /// As `run`, and adds each load and store that was carried out and hits, in their order.
@@ -229,21 +185,14 @@ impl Machine {
         hits: &mut Hits,
     ) -> Result<End, AllocError>
         requires chooser { IsChooser F.pre F.post chooser.now }
-        requires point { IsPoint G.pre G.post point.now }
-        requires spans { AreSpans spans.now }
-        requires kind { kind_of chooser.now ≡ self.old.kind }
-        requires events { self.old.events + sum_by (λ q. q.count) quanta.now < 2 ^ 64 }
-        ensures kind { self.new.kind ≡ self.old.kind }
-        ensures mode { self.new.mode ≡ self.old.mode }
-        ensures events { self.new.events ≤ self.old.events + sum_by (λ q. q.count) quanta.now }
-        ensures halts { IsHalting self.old → HaltRuns quanta.now self.old self.new result }
-        ensures goes_on { self.old.mode ≡ GoOn → GoOnRuns quanta.now self.old self.new result }
-        ensures halted { RemainsHalted self.old self.new result }
-        ensures hits { IsHalting self.old → HitsFollow (kind_of_point point.now) spans.now hits.old hits.new quanta.now self.old self.new result }
-        ensures hits_in { self.old.mode ≡ GoOn → HitsFollowIn (kind_of_point point.now) spans.now hits.old hits.new quanta.now self.old self.new result }
-        ensures none_halted { NoneWhereHalted self.old hits.old hits.new }
+        requires watches { Watches G.pre G.post point.now spans.now }
+        requires fits { RunFits (kind_of chooser.now) (sum_by (λ q. q.count) quanta.now) self.old }
+        ensures keeps { CountsRun (sum_by (λ q. q.count) quanta.now) self.old self.new }
+        ensures halts { IsHalting self.old → HaltWatched (watched_at point.now spans.now) quanta.now self.old hits.old self.new hits.new result }
+        ensures goes_on { self.old.mode ≡ GoOn → GoOnWatched (watched_at point.now spans.now) quanta.now self.old hits.old self.new hits.new result }
+        ensures halted { RemainsWatched self.old hits.old self.new hits.new result }
     {
-        self.run_repeated_watched(quanta, 1, chooser, point, spans, hits)
+        self.run_repeated_watched(quanta, 1, chooser, &Watcher { point, spans }, hits)
     }
 
     /// `run_watched` of the quanta so many times.
@@ -255,24 +204,16 @@ impl Machine {
         quanta: &[Quantum],
         count: u32,
         chooser: &Chooser<F>,
-        point: &WatchPoint<G>,
-        spans: &[Span],
+        watcher: &Watcher<'_, G>,
         hits: &mut Hits,
     ) -> Result<End, AllocError>
         requires chooser { IsChooser F.pre F.post chooser.now }
-        requires point { IsPoint G.pre G.post point.now }
-        requires spans { AreSpans spans.now }
-        requires kind { kind_of chooser.now ≡ self.old.kind }
-        requires events { self.old.events + count * sum_by (λ q. q.count) quanta.now < 2 ^ 64 }
-        ensures kind { self.new.kind ≡ self.old.kind }
-        ensures mode { self.new.mode ≡ self.old.mode }
-        ensures events { self.new.events ≤ self.old.events + count * sum_by (λ q. q.count) quanta.now }
-        ensures halts { IsHalting self.old → HaltRuns (repeated count quanta.now) self.old self.new result }
-        ensures goes_on { self.old.mode ≡ GoOn → GoOnRuns (repeated count quanta.now) self.old self.new result }
-        ensures halted { RemainsHalted self.old self.new result }
-        ensures hits { IsHalting self.old → HitsFollow (kind_of_point point.now) spans.now hits.old hits.new (repeated count quanta.now) self.old self.new result }
-        ensures hits_in { self.old.mode ≡ GoOn → HitsFollowIn (kind_of_point point.now) spans.now hits.old hits.new (repeated count quanta.now) self.old self.new result }
-        ensures none_halted { NoneWhereHalted self.old hits.old hits.new }
+        requires watcher { IsWatcher G.pre G.post watcher.now }
+        requires fits { RunFits (kind_of chooser.now) (count * sum_by (λ q. q.count) quanta.now) self.old }
+        ensures keeps { CountsRun (count * sum_by (λ q. q.count) quanta.now) self.old self.new }
+        ensures halts { IsHalting self.old → HaltWatched (watched_by watcher.now) (repeated count quanta.now) self.old hits.old self.new hits.new result }
+        ensures goes_on { self.old.mode ≡ GoOn → GoOnWatched (watched_by watcher.now) (repeated count quanta.now) self.old hits.old self.new hits.new result }
+        ensures halted { RemainsWatched self.old hits.old self.new hits.new result }
     {
         if let Some(access) = self.parts.halted_at() {
             return Ok(End::Stray(access));
@@ -280,9 +221,9 @@ impl Machine {
         // Both for their clauses: as long as nothing strayed the world is in order, and copies hold their files.
         let _kind = self.kind();
         tell_copies(&self.parts);
-        let watcher = Watcher { point, spans };
+        let hooks = Hooks { chooser, watcher };
         for _time in 0..count {
-            if let Some(end) = self.round(quanta, chooser, &watcher, hits)? {
+            if let Some(end) = self.round(quanta, &hooks, hits)? {
                 return Ok(end);
             }
         }

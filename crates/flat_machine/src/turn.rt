@@ -1,38 +1,37 @@
 //! The turn of a process.
 
-ghost use Rattle.std.specs.Prelude.{◌≡◌, ◌≤◌, ℕ, true, false, Some, List, IfOk, Ok, OnErr};
+ghost use Rattle.std.specs.Prelude.{◌≡◌, ℕ, true, false, List, None, Some, Ok};
 ghost use Rattle.page_runs.specs.Choosers.{IsChooser, kind_of};
 ghost use Rattle.vfork_exec.specs.Procs.{CanRun};
 ghost use Rattle.byte_words.specs.declared.access.Access.{Access};
-ghost use Rattle.rv32im_step.specs.declared.stop.Stop.TheVariants.{Call, Refused};
-ghost use Rattle.machine_world.specs.Event.{event, strays};
-ghost use Rattle.machine_world.specs.Courses.{Leads, Halts, StandsAt};
-ghost use Rattle.memory_world.specs.Physical.{outside, first_stray_in, has_stray, died_in};
-ghost use Rattle.memory_world.specs.Courses.{LeadsIn, StandsIn};
+ghost use Rattle.rv32im_step.specs.declared.stop.Stop.TheVariants.{Refused};
+ghost use Rattle.machine_world.specs.Event.{event};
+ghost use Rattle.memory_world.specs.Physical.{outside, has_stray, died_in};
 ghost use Rattle.region_watch.specs.declared.mode.Mode.TheVariants.{Halt, GoOn};
 ghost use Rattle.kept_parts.specs.Flats.{ForRuns};
-ghost use Rattle.kept_parts.specs.InMemory.{headers_of, physical_of};
+ghost use Rattle.kept_parts.specs.InMemory.{physical_of};
 ghost use Rattle.kept_parts.specs.Copies.{HoldsFiles, KnowsFiles};
 ghost use Rattle.kept_parts.specs.Reach.{reach_of};
-ghost use Rattle.kept_parts.specs.Stands.{About, later, world_of};
+ghost use Rattle.kept_parts.specs.Stands.{About, world_of};
 ghost use Rattle.flat_machine.specs.declared.turn.After.TheVariants.{Strays};
-ghost use Rattle.flat_machine.specs.Leaves.{Carried, CarriedOrEnds, CarriedOrPast};
-ghost use Rattle.flat_machine.specs.LeavesIn.{CarriedIn, CarriedWithin, EventIn, StandsWithin, HaltsWithin};
-ghost use Rattle.flat_machine.specs.ByMode.{HaltEvent, GoOnEvent, HaltTurn, GoOnTurn};
-ghost use Rattle.watch_points.specs.Points.{AreSpans, IsPoint, kind_of_point};
-ghost use Rattle.flat_machine.specs.Hits.{turn_hits, turn_hits_in};
-ghost use Rattle.flat_machine.specs.HitsLeft.{HitsLead, EventHits, TurnHits};
+ghost use Rattle.flat_machine.specs.Leaves.{Carried};
+ghost use Rattle.flat_machine.specs.LeavesIn.{CarriedIn};
+ghost use Rattle.flat_machine.specs.ByMode.{GoOnWithin, WholeEvent, HaltStray, GoOnStray, HaltEvent, GoOnEvent, HaltTurn, GoOnTurn};
+ghost use Rattle.flat_machine.specs.Hooks.{AreHooks, given, given_by};
+ghost use Rattle.flat_machine.specs.Keeps.{EventKeeps, TurnKeeps, StepsKeep, MayGo, StandsTo, StandsToCall, GoesBehind, FirstStrays};
+ghost use Rattle.flat_machine.specs.Steps.{OwnSteps, MemorySteps};
+ghost use Rattle.watch_points.specs.Watchers.{IsWatcher, watched_by};
 
 use crate::advance::advance;
+use crate::hooks::Hooks;
 use crate::run::End;
-use crate::watcher::Watcher;
-use kept_parts::{Reach, Served};
+use kept_parts::Served;
 use page_runs::{Chooser, Run};
 use region_watch::{Mode, Progress};
 use rv32im_step::{Access, Stop};
 use std::alloc::AllocError;
 use syscall_layer::{Parts, call_event_law, serve};
-use watch_points::{Hits, Span};
+use watch_points::{Hits, Span, Watcher};
 
 /// The signal of an access outside memory.
 const SIGSEGV: u8 = 11;
@@ -59,26 +58,13 @@ fn instructions<G: Fn(&[Span], u32, u32) -> bool>(
     watcher: &Watcher<'_, G>,
     hits: &mut Hits,
 ) -> Progress
-    requires point { IsPoint G.pre G.post watcher.now.point.now }
-    requires spans { AreSpans watcher.now.spans.now }
+    requires watcher { IsWatcher G.pre G.post watcher.now }
     requires ready { CanRun parts.old.kept.procs pid }
-    ensures programs { parts.new.programs ≡ parts.old.programs }
-    ensures mode { parts.new.mode ≡ parts.old.mode }
-    ensures noted { parts.new.noted ≡ has_stray parts.new.kept.notes }
-    ensures ready { CanRun parts.new.kept.procs pid }
-    ensures within { result.done ≤ count }
-    ensures notes { parts.new.kept.notes ≡ parts.old.kept.notes }
-    ensures still { result.done ≡ 0 → parts.new ≡ parts.old }
-    ensures leads { has_stray parts.old.kept.notes ≡ false → (a : About) → Leads pid (world_of a parts.old.kept) result.done (world_of (later result.done a) parts.new.kept) }
-    ensures halts { has_stray parts.old.kept.notes ≡ false → (a : About) → Halts (world_of (later result.done a) parts.new.kept) pid count result.done result.stop }
-    ensures leads_in { (headers : List (List ℕ)) → (a : About) → LeadsIn pid (physical_of headers a parts.old.kept) result.done (physical_of headers (later result.done a) parts.new.kept) }
-    ensures halts_in { (headers : List (List ℕ)) → (a : About) → HaltsWithin (reach_of parts.new.noted) (physical_of headers (later result.done a) parts.new.kept) pid count result.done result.stop }
-    ensures hits { has_stray parts.old.kept.notes ≡ false → (a : About) →
-        HitsLead (turn_hits (kind_of_point watcher.now.point.now) watcher.now.spans.now pid) hits.old hits.new (world_of a parts.old.kept) result.done (world_of (later result.done a) parts.new.kept) }
-    ensures hits_in { (headers : List (List ℕ)) → (a : About) →
-        HitsLead (turn_hits_in (kind_of_point watcher.now.point.now) watcher.now.spans.now pid) hits.old hits.new (physical_of headers a parts.old.kept) result.done (physical_of headers (later result.done a) parts.new.kept) }
+    ensures keeps { StepsKeep pid count parts.old result.done parts.new }
+    ensures own { has_stray parts.old.kept.notes ≡ false → OwnSteps (watched_by watcher.now) pid count parts.old.kept hits.old result parts.new.kept hits.new }
+    ensures memory { MemorySteps (watched_by watcher.now) pid count (reach_of parts.new.noted) parts.old.kept hits.old result parts.new.kept hits.new }
 {
-    let within = parts.reach();
+    let within = parts.watch_mode();
     advance(&mut parts.kept, pid, count, within, watcher, hits)
 }
 
@@ -86,17 +72,14 @@ fn instructions<G: Fn(&[Span], u32, u32) -> bool>(
 /// by SIGSEGV.
 fn refused(parts: &mut Parts, pid: u32, access: Access) -> Result<After, AllocError>
     requires { CanRun parts.old.kept.procs pid }
-    ensures programs { parts.new.programs ≡ parts.old.programs }
-    ensures mode { parts.new.mode ≡ parts.old.mode }
-    ensures noted { parts.new.noted ≡ has_stray parts.new.kept.notes }
+    ensures keeps { EventKeeps parts.old parts.new result }
     ensures strays { has_stray parts.old.kept.notes ≡ false → (result ≡ Ok (Strays access)) × (parts.new ≡ parts.old) }
     ensures memory { has_stray parts.old.kept.notes ≡ true → (headers : List (List ℕ)) → (a : About) →
         CarriedIn headers a (died_in (physical_of headers a parts.old.kept) pid outside) parts.old.kept parts.new.kept pid result }
-    ensures unchanged { OnErr result (parts.new ≡ parts.old) }
 {
-    match parts.reach() {
-        Reach::Own => Ok(After::Strays(access)),
-        Reach::Whole => {
+    match parts.watch_mode() {
+        Mode::Halt => Ok(After::Strays(access)),
+        Mode::GoOn => {
             parts.end_by_signal(pid, SIGSEGV)?;
             Ok(After::TurnEnds)
         }
@@ -110,20 +93,11 @@ fn called<F: Fn(&[Run], u32) -> Option<usize>>(
     chooser: &Chooser<F>,
 ) -> Result<After, AllocError>
     requires chooser { IsChooser F.pre F.post chooser.now }
-    requires ready { CanRun parts.old.kept.procs pid }
-    requires halting { parts.old.mode ≡ Halt → has_stray parts.old.kept.notes ≡ false }
-    requires stands { has_stray parts.old.kept.notes ≡ false → (a : About) → StandsAt (world_of a parts.old.kept) pid Call }
-    requires stands_in { (headers : List (List ℕ)) → (a : About) → StandsIn (physical_of headers a parts.old.kept) pid Call }
-    ensures programs { parts.new.programs ≡ parts.old.programs }
-    ensures mode { parts.new.mode ≡ parts.old.mode }
-    ensures noted { parts.new.noted ≡ has_stray parts.new.kept.notes }
+    requires stands { StandsToCall parts.old pid }
+    ensures keeps { EventKeeps parts.old parts.new result }
     ensures halts { parts.old.mode ≡ Halt → ForRuns (kind_of chooser.now) parts.old.programs (λ a.
         Carried a (event (world_of a parts.old.kept) pid) parts.old.kept parts.new.kept pid result) }
-    ensures past { parts.old.mode ≡ GoOn → has_stray parts.old.kept.notes ≡ false → ForRuns (kind_of chooser.now) parts.old.programs (λ a.
-        CarriedOrPast a (event (world_of a parts.old.kept) pid) parts.old.kept parts.new.kept pid result) }
-    ensures memory { parts.old.mode ≡ GoOn → ForRuns (kind_of chooser.now) parts.old.programs (λ a.
-        CarriedWithin (headers_of parts.old.programs) a parts.old.kept parts.new.kept pid result) }
-    ensures unchanged { OnErr result (parts.new ≡ parts.old) }
+    ensures goes_on { parts.old.mode ≡ GoOn → GoOnWithin (kind_of chooser.now) parts.old.programs pid parts.old.kept parts.new.kept result }
 {
     call_event_law();
     match serve(parts, pid, chooser)? {
@@ -143,22 +117,12 @@ fn event_within<F: Fn(&[Run], u32) -> Option<usize>>(
     chooser: &Chooser<F>,
 ) -> Result<After, AllocError>
     requires chooser { IsChooser F.pre F.post chooser.now }
-    requires ready { CanRun parts.old.kept.procs pid }
-    requires noted { parts.old.noted ≡ has_stray parts.old.kept.notes }
-    requires halting { parts.old.mode ≡ Halt → has_stray parts.old.kept.notes ≡ false }
-    requires stands { has_stray parts.old.kept.notes ≡ false → (a : About) → StandsAt (world_of a parts.old.kept) pid stop }
-    requires stands_in { (headers : List (List ℕ)) → (a : About) → StandsWithin (reach_of parts.old.noted) (physical_of headers a parts.old.kept) pid stop }
-    ensures programs { parts.new.programs ≡ parts.old.programs }
-    ensures mode { parts.new.mode ≡ parts.old.mode }
-    ensures noted { parts.new.noted ≡ has_stray parts.new.kept.notes }
+    requires stands { StandsTo stop parts.old pid }
+    ensures keeps { EventKeeps parts.old parts.new result }
     ensures halts { parts.old.mode ≡ Halt → ForRuns (kind_of chooser.now) parts.old.programs (λ a.
         Carried a (event (world_of a parts.old.kept) pid) parts.old.kept parts.new.kept pid result) }
-    ensures past { parts.old.mode ≡ GoOn → has_stray parts.old.kept.notes ≡ false → ForRuns (kind_of chooser.now) parts.old.programs (λ a.
-        CarriedOrPast a (event (world_of a parts.old.kept) pid) parts.old.kept parts.new.kept pid result) }
-    ensures memory { parts.old.mode ≡ GoOn → ForRuns (kind_of chooser.now) parts.old.programs (λ a.
-        CarriedWithin (headers_of parts.old.programs) a parts.old.kept parts.new.kept pid result) }
+    ensures goes_on { parts.old.mode ≡ GoOn → GoOnWithin (kind_of chooser.now) parts.old.programs pid parts.old.kept parts.new.kept result }
     ensures refuses { has_stray parts.old.kept.notes ≡ false → (access : Access) → stop ≡ Refused access → result ≡ Ok (Strays access) }
-    ensures unchanged { OnErr result (parts.new ≡ parts.old) }
 {
     match stop {
         Stop::Next => Ok(After::GoesOn),
@@ -180,25 +144,23 @@ fn whole_event<F: Fn(&[Run], u32) -> Option<usize>, G: Fn(&[Span], u32, u32) -> 
     hits: &mut Hits,
 ) -> Result<After, AllocError>
     requires chooser { IsChooser F.pre F.post chooser.now }
-    requires point { IsPoint G.pre G.post watcher.now.point.now }
-    requires spans { AreSpans watcher.now.spans.now }
-    requires ready { CanRun parts.old.kept.procs pid }
-    requires goes_on { parts.old.mode ≡ GoOn }
-    requires strayed { has_stray parts.old.kept.notes ≡ true }
-    ensures programs { parts.new.programs ≡ parts.old.programs }
-    ensures mode { parts.new.mode ≡ parts.old.mode }
-    ensures noted { parts.new.noted ≡ has_stray parts.new.kept.notes }
-    ensures memory { ForRuns (kind_of chooser.now) parts.old.programs (λ a.
-        EventIn (headers_of parts.old.programs) a parts.old.kept parts.new.kept pid result) }
-    ensures hits { ForRuns (kind_of chooser.now) parts.old.programs (λ a.
-        EventHits (turn_hits_in (kind_of_point watcher.now.point.now) watcher.now.spans.now pid) hits.old hits.new (physical_of (headers_of parts.old.programs) a parts.old.kept) (physical_of (headers_of parts.old.programs) (later 1 a) parts.new.kept) result) }
-    ensures unchanged { OnErr result (parts.new ≡ parts.old) }
+    requires watcher { IsWatcher G.pre G.post watcher.now }
+    requires behind { GoesBehind parts.old pid }
+    ensures keeps { EventKeeps parts.old parts.new result }
+    ensures event { WholeEvent (given (kind_of chooser.now) (watched_by watcher.now) parts.old.programs) pid parts.old.kept hits.old parts.new.kept hits.new result }
 {
     let progress = instructions(parts, pid, 1, watcher, hits);
     if progress.stop == Stop::Next {
         return Ok(After::GoesOn);
     }
     event_within(parts, pid, progress.stop, chooser)
+}
+
+/// What becomes of the run at its first stray access.
+fn mode_of(parts: &Parts) -> Mode
+    ensures { result ≡ parts.now.mode }
+{
+    parts.mode
 }
 
 /// Notes the access of an instruction that strays, the run's first. A run that goes on then carries out its event over all of memory; out
@@ -209,41 +171,24 @@ fn stray<F: Fn(&[Run], u32) -> Option<usize>, G: Fn(&[Span], u32, u32) -> bool>(
     parts: &mut Parts,
     pid: u32,
     access: Access,
-    mode: Mode,
-    chooser: &Chooser<F>,
-    watcher: &Watcher<'_, G>,
+    hooks: &Hooks<'_, F, G>,
     hits: &mut Hits,
 ) -> Result<After, AllocError>
-    requires chooser { IsChooser F.pre F.post chooser.now }
-    requires point { IsPoint G.pre G.post watcher.now.point.now }
-    requires spans { AreSpans watcher.now.spans.now }
-    requires ready { CanRun parts.old.kept.procs pid }
-    requires mode { parts.old.mode ≡ mode }
-    requires noted { parts.old.noted ≡ has_stray parts.old.kept.notes }
-    requires quiet { has_stray parts.old.kept.notes ≡ false }
-    requires first { mode ≡ GoOn → ForRuns (kind_of chooser.now) parts.old.programs (λ a.
-        first_stray_in (physical_of (headers_of parts.old.programs) a parts.old.kept) pid ≡ Some access) }
-    ensures programs { parts.new.programs ≡ parts.old.programs }
-    ensures mode { parts.new.mode ≡ parts.old.mode }
-    ensures noted { parts.new.noted ≡ has_stray parts.new.kept.notes }
-    ensures ends { mode ≡ Halt → (a : About) → CarriedOrEnds a (strays access) parts.old.kept parts.new.kept pid result }
-    ensures past { mode ≡ GoOn → (a : About) → CarriedOrPast a (strays access) parts.old.kept parts.new.kept pid result }
-    ensures memory { mode ≡ GoOn → ForRuns (kind_of chooser.now) parts.old.programs (λ a.
-        EventIn (headers_of parts.old.programs) a parts.old.kept parts.new.kept pid result) }
-    ensures hits { mode ≡ Halt → hits.new ≡ hits.old }
-    ensures hits_in { mode ≡ GoOn → ForRuns (kind_of chooser.now) parts.old.programs (λ a.
-        EventHits (turn_hits_in (kind_of_point watcher.now.point.now) watcher.now.spans.now pid) hits.old hits.new (physical_of (headers_of parts.old.programs) a parts.old.kept) (physical_of (headers_of parts.old.programs) (later 1 a) parts.new.kept) result) }
-    ensures holds { mode ≡ Halt → IfOk result (λ _. HoldsFiles parts.new.kept) }
-    ensures unchanged { OnErr result (parts.new ≡ parts.old) }
+    requires hooks { AreHooks F.pre F.post G.pre G.post hooks.now }
+    requires first { FirstStrays (kind_of hooks.now.chooser.now) parts.old pid access }
+    ensures keeps { EventKeeps parts.old parts.new result }
+    ensures halts { parts.old.mode ≡ Halt → HaltStray pid access parts.old.kept hits.old parts.new.kept hits.new result }
+    ensures goes_on { parts.old.mode ≡ GoOn → GoOnStray (given_by hooks.now parts.old.programs) pid access parts.old.kept hits.old parts.new.kept hits.new result }
 {
-    match mode {
+    match mode_of(parts) {
         Mode::Halt => {
             parts.note_stray(pid, access)?;
             Ok(After::Strays(access))
         }
         Mode::GoOn => {
             // What a closure ensures isn't inferred where it captures a struct with a lifetime.
-            let Watcher { point, spans } = *watcher;
+            let chooser = hooks.chooser;
+            let Watcher { point, spans } = *hooks.watcher;
             parts.behind_note(pid, access, hits, |parts, hits| {
                 whole_event(parts, pid, chooser, &Watcher { point, spans }, hits)
             })
@@ -257,35 +202,20 @@ fn next_event<F: Fn(&[Run], u32) -> Option<usize>, G: Fn(&[Span], u32, u32) -> b
     parts: &mut Parts,
     pid: u32,
     stop: Stop,
-    mode: Mode,
-    chooser: &Chooser<F>,
-    watcher: &Watcher<'_, G>,
+    hooks: &Hooks<'_, F, G>,
     hits: &mut Hits,
 ) -> Result<After, AllocError>
-    requires chooser { IsChooser F.pre F.post chooser.now }
-    requires point { IsPoint G.pre G.post watcher.now.point.now }
-    requires spans { AreSpans watcher.now.spans.now }
-    requires ready { CanRun parts.old.kept.procs pid }
-    requires mode { parts.old.mode ≡ mode }
-    requires noted { parts.old.noted ≡ has_stray parts.old.kept.notes }
-    requires halting { mode ≡ Halt → has_stray parts.old.kept.notes ≡ false }
-    requires stands { has_stray parts.old.kept.notes ≡ false → (a : About) → StandsAt (world_of a parts.old.kept) pid stop }
-    requires stands_in { (headers : List (List ℕ)) → (a : About) → StandsWithin (reach_of parts.old.noted) (physical_of headers a parts.old.kept) pid stop }
-    ensures programs { parts.new.programs ≡ parts.old.programs }
-    ensures mode { parts.new.mode ≡ parts.old.mode }
-    ensures noted { parts.new.noted ≡ has_stray parts.new.kept.notes }
-    ensures halts { mode ≡ Halt → HaltEvent (kind_of chooser.now) parts.old.programs pid parts.old.kept parts.new.kept result }
-    ensures goes_on { mode ≡ GoOn → GoOnEvent (kind_of chooser.now) parts.old.programs pid parts.old.kept parts.new.kept result }
-    ensures hits { mode ≡ Halt → hits.new ≡ hits.old }
-    ensures hits_in { mode ≡ GoOn → ForRuns (kind_of chooser.now) parts.old.programs (λ a.
-        EventHits (turn_hits_in (kind_of_point watcher.now.point.now) watcher.now.spans.now pid) hits.old hits.new (physical_of (headers_of parts.old.programs) a parts.old.kept) (physical_of (headers_of parts.old.programs) (later 1 a) parts.new.kept) result) }
-    ensures unchanged { OnErr result (parts.new ≡ parts.old) }
+    requires hooks { AreHooks F.pre F.post G.pre G.post hooks.now }
+    requires stands { StandsTo stop parts.old pid }
+    ensures keeps { EventKeeps parts.old parts.new result }
+    ensures halts { parts.old.mode ≡ Halt → HaltEvent (kind_of hooks.now.chooser.now) parts.old.programs pid parts.old.kept hits.old parts.new.kept hits.new result }
+    ensures goes_on { parts.old.mode ≡ GoOn → GoOnEvent (given_by hooks.now parts.old.programs) pid parts.old.kept hits.old parts.new.kept hits.new result }
 {
-    let after = event_within(parts, pid, stop, chooser)?;
+    let after = event_within(parts, pid, stop, hooks.chooser)?;
     let After::Strays(access) = after else {
         return Ok(after);
     };
-    stray(parts, pid, access, mode, chooser, watcher, hits)
+    stray(parts, pid, access, hooks, hits)
 }
 
 /// What a turn leaves beside the parts.
@@ -297,64 +227,55 @@ pub(crate) struct TurnEnd {
     pub(crate) end: Result<Option<End>, AllocError>,
 }
 
-/// Up to `count` events of a process that may run, in this mode.
+impl TurnEnd {
+    /// The turn is over behind so many events, and the run isn't.
+    fn over(events: u32) -> TurnEnd
+        ensures { result ≡ record { events = events; end = Ok None } }
+    {
+        TurnEnd {
+            events,
+            end: Ok(None),
+        }
+    }
+
+    /// It ends the run behind so many events.
+    fn with_run(events: u32, end: End) -> TurnEnd
+        ensures { result ≡ record { events = events; end = Ok (Some end) } }
+    {
+        TurnEnd {
+            events,
+            end: Ok(Some(end)),
+        }
+    }
+}
+
+/// Up to `count` events of a process that may run.
 fn events_of<F: Fn(&[Run], u32) -> Option<usize>, G: Fn(&[Span], u32, u32) -> bool>(
     parts: &mut Parts,
     pid: u32,
     count: u32,
-    mode: Mode,
-    chooser: &Chooser<F>,
-    watcher: &Watcher<'_, G>,
+    hooks: &Hooks<'_, F, G>,
     hits: &mut Hits,
 ) -> TurnEnd
-    requires chooser { IsChooser F.pre F.post chooser.now }
-    requires point { IsPoint G.pre G.post watcher.now.point.now }
-    requires spans { AreSpans watcher.now.spans.now }
-    requires ready { CanRun parts.old.kept.procs pid }
-    requires mode { parts.old.mode ≡ mode }
+    requires hooks { AreHooks F.pre F.post G.pre G.post hooks.now }
+    requires may { MayGo parts.old pid }
     requires noted { parts.old.noted ≡ has_stray parts.old.kept.notes }
-    requires halting { mode ≡ Halt → has_stray parts.old.kept.notes ≡ false }
-    ensures programs { parts.new.programs ≡ parts.old.programs }
-    ensures mode { parts.new.mode ≡ parts.old.mode }
-    ensures noted { parts.new.noted ≡ has_stray parts.new.kept.notes }
-    ensures within { result.events ≤ count }
-    ensures halts { mode ≡ Halt → HaltTurn (kind_of chooser.now) parts.old.programs pid count parts.old.kept result.events parts.new.kept result.end }
-    ensures goes_on { mode ≡ GoOn → GoOnTurn (kind_of chooser.now) parts.old.programs pid count parts.old.kept result.events parts.new.kept result.end }
-    ensures hits { mode ≡ Halt → ForRuns (kind_of chooser.now) parts.old.programs (λ a.
-        TurnHits (turn_hits (kind_of_point watcher.now.point.now) watcher.now.spans.now pid) hits.old hits.new count (world_of a parts.old.kept) result.events result.end) }
-    ensures hits_in { mode ≡ GoOn → ForRuns (kind_of chooser.now) parts.old.programs (λ a.
-        TurnHits (turn_hits_in (kind_of_point watcher.now.point.now) watcher.now.spans.now pid) hits.old hits.new count (physical_of (headers_of parts.old.programs) a parts.old.kept) result.events result.end) }
+    ensures keeps { TurnKeeps count parts.old result.events parts.new }
+    ensures halts { parts.old.mode ≡ Halt → HaltTurn (given_by hooks.now parts.old.programs) pid count parts.old.kept hits.old result.events parts.new.kept hits.new result.end }
+    ensures goes_on { parts.old.mode ≡ GoOn → GoOnTurn (given_by hooks.now parts.old.programs) pid count parts.old.kept hits.old result.events parts.new.kept hits.new result.end }
 {
     let mut events = 0;
     while events < count {
-        let progress = instructions(parts, pid, count - events, watcher, hits);
+        let progress = instructions(parts, pid, count - events, hooks.watcher, hits);
         events += progress.done;
         if progress.stop == Stop::Next {
-            return TurnEnd {
-                events,
-                end: Ok(None),
-            };
+            return TurnEnd::over(events);
         }
-        match next_event(parts, pid, progress.stop, mode, chooser, watcher, hits) {
+        match next_event(parts, pid, progress.stop, hooks, hits) {
             Ok(After::GoesOn) => events += 1,
-            Ok(After::TurnEnds) => {
-                return TurnEnd {
-                    events: events + 1,
-                    end: Ok(None),
-                };
-            }
-            Ok(After::Strays(access)) => {
-                return TurnEnd {
-                    events,
-                    end: Ok(Some(End::Stray(access))),
-                };
-            }
-            Ok(After::LogFull) => {
-                return TurnEnd {
-                    events,
-                    end: Ok(Some(End::LogFull)),
-                };
-            }
+            Ok(After::TurnEnds) => return TurnEnd::over(events + 1),
+            Ok(After::Strays(access)) => return TurnEnd::with_run(events, End::Stray(access)),
+            Ok(After::LogFull) => return TurnEnd::with_run(events, End::LogFull),
             Err(error) => {
                 return TurnEnd {
                     events,
@@ -363,10 +284,7 @@ fn events_of<F: Fn(&[Run], u32) -> Option<usize>, G: Fn(&[Span], u32, u32) -> bo
             }
         }
     }
-    TurnEnd {
-        events,
-        end: Ok(None),
-    }
+    TurnEnd::over(events)
 }
 
 /// As long as no stray access was noted each live copy of a file that wasn't changed since holds it; and its file is known, whatever was
@@ -379,34 +297,31 @@ pub(crate) fn tell_copies(parts: &Parts)
     let _live = parts.kept.procs.live();
 }
 
+/// A stray access is marked as noted exactly where the notes have one. Nothing is done.
+fn tell_noted(parts: &Parts)
+    ensures { parts.now.noted ≡ has_stray parts.now.kept.notes }
+{
+    // Whatever is read opens the parts, whose invariant says so.
+    let _noted = parts.noted;
+}
+
 /// Up to `count` events of a process that may run. A run that has ended at its first stray access isn't gone on with.
 pub(crate) fn turn<F: Fn(&[Run], u32) -> Option<usize>, G: Fn(&[Span], u32, u32) -> bool>(
     parts: &mut Parts,
     pid: u32,
     count: u32,
-    chooser: &Chooser<F>,
-    watcher: &Watcher<'_, G>,
+    hooks: &Hooks<'_, F, G>,
     hits: &mut Hits,
 ) -> TurnEnd
-    requires chooser { IsChooser F.pre F.post chooser.now }
-    requires point { IsPoint G.pre G.post watcher.now.point.now }
-    requires spans { AreSpans watcher.now.spans.now }
-    requires ready { CanRun parts.old.kept.procs pid }
-    requires halting { parts.old.mode ≡ Halt → has_stray parts.old.kept.notes ≡ false }
-    ensures programs { parts.new.programs ≡ parts.old.programs }
-    ensures mode { parts.new.mode ≡ parts.old.mode }
-    ensures noted { parts.new.noted ≡ has_stray parts.new.kept.notes }
-    ensures within { result.events ≤ count }
+    requires hooks { AreHooks F.pre F.post G.pre G.post hooks.now }
+    requires may { MayGo parts.old pid }
+    ensures keeps { TurnKeeps count parts.old result.events parts.new }
     ensures copies { has_stray parts.new.kept.notes ≡ false → HoldsFiles parts.new.kept }
-    ensures halts { parts.old.mode ≡ Halt → HaltTurn (kind_of chooser.now) parts.old.programs pid count parts.old.kept result.events parts.new.kept result.end }
-    ensures goes_on { parts.old.mode ≡ GoOn → GoOnTurn (kind_of chooser.now) parts.old.programs pid count parts.old.kept result.events parts.new.kept result.end }
-    ensures hits { parts.old.mode ≡ Halt → ForRuns (kind_of chooser.now) parts.old.programs (λ a.
-        TurnHits (turn_hits (kind_of_point watcher.now.point.now) watcher.now.spans.now pid) hits.old hits.new count (world_of a parts.old.kept) result.events result.end) }
-    ensures hits_in { parts.old.mode ≡ GoOn → ForRuns (kind_of chooser.now) parts.old.programs (λ a.
-        TurnHits (turn_hits_in (kind_of_point watcher.now.point.now) watcher.now.spans.now pid) hits.old hits.new count (physical_of (headers_of parts.old.programs) a parts.old.kept) result.events result.end) }
+    ensures halts { parts.old.mode ≡ Halt → HaltTurn (given_by hooks.now parts.old.programs) pid count parts.old.kept hits.old result.events parts.new.kept hits.new result.end }
+    ensures goes_on { parts.old.mode ≡ GoOn → GoOnTurn (given_by hooks.now parts.old.programs) pid count parts.old.kept hits.old result.events parts.new.kept hits.new result.end }
 {
-    let mode = parts.mode;
-    let TurnEnd { events, end } = events_of(parts, pid, count, mode, chooser, watcher, hits);
+    tell_noted(parts);
+    let ended = events_of(parts, pid, count, hooks, hits);
     tell_copies(parts);
-    TurnEnd { events, end }
+    ended
 }

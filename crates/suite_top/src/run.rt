@@ -47,7 +47,7 @@ use page_runs::{Chooser, Run};
 use region_watch::Mode;
 use run_setup::{FaultAt, LineFault, RunFiles, bring};
 use std::alloc::{AllocError, Global};
-use watch_points::{Hits, PointKind, Span, WatchPoint};
+use watch_points::{Hits, PointKind, Span, WatchPoint, Watcher};
 
 /// Loads the manifest and the files of its lines, and runs the programs that they bring in.
 pub fn run_file<H: Host, F, P, Q>(
@@ -310,8 +310,10 @@ where
         &course.quanta,
         course.repeat,
         chooser,
-        point,
-        &spans,
+        &Watcher {
+            point,
+            spans: &spans,
+        },
         &mut hits,
     )?;
     let shown = shown_text(alloc, &hits, machine, &course.dumps)?;

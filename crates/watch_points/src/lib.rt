@@ -12,9 +12,11 @@ mod point;
 mod probed;
 mod span;
 mod watched;
+mod watcher;
 
 pub use hits::{Hit, Hits};
 pub use laws::{found_law, hits_law};
 pub use point::{PointKind, WatchPoint};
 pub use span::{Span, touches, within};
 pub use watched::run_watched;
+pub use watcher::Watcher;

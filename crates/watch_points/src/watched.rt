@@ -1,21 +1,17 @@
 //! The loop of instructions that tells what hits.
 
-ghost use Rattle.std.specs.Prelude.{◌≡◌, ◌<◌, ◌≤◌, ◌^◌, true, length, None, IfSome};
+ghost use Rattle.std.specs.Prelude.{◌≡◌, ◌<◌, ◌^◌, None, IfSome};
 ghost use Rattle.rv32im_step.specs.Parts.{registers};
-ghost use Rattle.rv32im_step.specs.declared.stop.Stop.TheVariants.{Next};
-ghost use Rattle.region_watch.specs.declared.mode.Mode.TheVariants.{Halt};
-ghost use Rattle.region_watch.specs.Private.{passes, passed_bytes, kept_bytes};
-ghost use Rattle.region_watch.specs.Instructions.{instructions, ran, all_asked};
-ghost use Rattle.region_watch.specs.Strays.{stray_after_all, stray_after_stop};
 ghost use Rattle.region_watch.specs.Watched.{first_stray};
 ghost use Rattle.watch_points.specs.Near.{Left, listed, told};
-ghost use Rattle.watch_points.specs.Points.{AreSpans, IsPoint, IsShort, hits_in, kind_of_point, with_hits};
+ghost use Rattle.watch_points.specs.Points.{IsShort, with_hits};
+ghost use Rattle.watch_points.specs.Watchers.{IsWatcher, ComesOn, KeepsWatch, StepsLeave, found_behind, watched_by};
 
 use crate::hits::{Hit, Hits};
 use crate::near::Near;
-use crate::point::WatchPoint;
 use crate::probed::Probed;
 use crate::span::Span;
+use crate::watcher::Watcher;
 use region_watch::{Progress, Watch, run_steps};
 use rv32im_step::{Access, RegisterFile, Regs, Stop, step_at};
 
@@ -34,11 +30,8 @@ fn near_steps(pc: &mut u32, x: &mut RegisterFile, bus: &mut Probed<'_, Watch<'_>
     requires small { bus.old.end < 2 ^ 32 }
     ensures left { Left bus.old.end bus.old.bus.now.mode bus.old.bus.now.owners.now (registers pc.old x.old) bus.old.bus.now.mem.now (first_stray bus.old.bus.now) bus.old.near
         result.done result.stop (registers pc.new x.new) bus.new.bus.now.mem.now (first_stray bus.new.bus.now) (listed bus.new.seen) }
-    ensures bound { result.done ≤ bus.old.end }
-    ensures goes { 0 < bus.old.end → result.stop ≡ Next → 0 < result.done }
-    ensures owners { bus.new.bus.now.owners.now ≡ bus.old.bus.now.owners.now }
-    ensures mode { bus.new.bus.now.mode ≡ bus.old.bus.now.mode }
-    ensures same_reference { bus.new.bus.now.mem.ghost_name ≡ bus.old.bus.now.mem.ghost_name }
+    ensures comes { ComesOn bus.old.end result }
+    ensures keeps { KeepsWatch bus.old.bus.now bus.new.bus.now }
     ensures same_watch { bus.new.bus.ghost_name ≡ bus.old.bus.ghost_name }
 {
     let mut done = 0;
@@ -59,11 +52,8 @@ fn near_steps(pc: &mut u32, x: &mut RegisterFile, bus: &mut Probed<'_, Watch<'_>
 fn run_near(regs: &mut Regs, watch: &mut Watch<'_>, near: Near, count: u32) -> NearRun
     ensures left { Left count watch.old.mode watch.old.owners.now regs.old watch.old.mem.now (first_stray watch.old) near
         result.progress.done result.progress.stop regs.new watch.new.mem.now (first_stray watch.new) (listed result.seen) }
-    ensures bound { result.progress.done ≤ count }
-    ensures goes { 0 < count → result.progress.stop ≡ Next → 0 < result.progress.done }
-    ensures owners { watch.new.owners.now ≡ watch.old.owners.now }
-    ensures mode { watch.new.mode ≡ watch.old.mode }
-    ensures same_reference { watch.new.mem.ghost_name ≡ watch.old.mem.ghost_name }
+    ensures comes { ComesOn count result.progress }
+    ensures keeps { KeepsWatch watch.old watch.new }
 {
     let mut bus = Probed {
         bus: watch,
@@ -85,17 +75,15 @@ fn run_near(regs: &mut Regs, watch: &mut Watch<'_>, near: Near, count: u32) -> N
 fn tell<F: Fn(&[Span], u32, u32) -> bool>(
     seen: Option<Access>,
     pid: u32,
-    point: &WatchPoint<F>,
-    spans: &[Span],
+    watcher: &Watcher<'_, F>,
     hits: &mut Hits,
 )
-    requires point { IsPoint F.pre F.post point.now }
-    requires spans { AreSpans spans.now }
+    requires watcher { IsWatcher F.pre F.post watcher.now }
     requires range { IfSome seen (λ access. IsShort access.addr access.len) }
-    ensures { hits.new ≡ with_hits hits.old (told (kind_of_point point.now) spans.now pid (listed seen)) }
+    ensures { let watched = watched_by watcher.now in hits.new ≡ with_hits hits.old (told watched.point watched.spans pid (listed seen)) }
 {
     if let Some(access) = seen {
-        if point.asks(spans, access.addr, access.len) {
+        if watcher.point.asks(watcher.spans, access.addr, access.len) {
             hits.add(Hit { pid, access });
         }
     }
@@ -108,31 +96,20 @@ fn run_beside<F: Fn(&[Span], u32, u32) -> bool>(
     watch: &mut Watch<'_>,
     count: u32,
     pid: u32,
-    point: &WatchPoint<F>,
-    spans: &[Span],
+    watcher: &Watcher<'_, F>,
     hits: &mut Hits,
 ) -> Progress
-    requires point { IsPoint F.pre F.post point.now }
-    requires spans { AreSpans spans.now }
-    ensures leaves { ran regs.new (passed_bytes watch.old.mode watch.old.owners.now watch.new.mem.now) result.done result.stop
-        ≡ instructions count (passes watch.old.mode watch.old.owners.now true) regs.old (passed_bytes watch.old.mode watch.old.owners.now watch.old.mem.now) }
-    ensures frozen { kept_bytes watch.old.mode watch.old.owners.now watch.new.mem.now ≡ kept_bytes watch.old.mode watch.old.owners.now watch.old.mem.now }
-    ensures length { length watch.new.mem.now ≡ length watch.old.mem.now }
-    ensures owners { watch.new.owners.now ≡ watch.old.owners.now }
-    ensures mode { watch.new.mode ≡ watch.old.mode }
-    ensures first { first_stray watch.new ≡ stray_after_all watch.old.owners.now (first_stray watch.old)
-        (all_asked count (passes watch.old.mode watch.old.owners.now true) regs.old (passed_bytes watch.old.mode watch.old.owners.now watch.old.mem.now)) }
-    ensures halts { watch.old.mode ≡ Halt → first_stray watch.new ≡ stray_after_stop (first_stray watch.old) result.stop }
-    ensures same_reference { watch.new.mem.ghost_name ≡ watch.old.mem.ghost_name }
-    ensures hits { hits.new ≡ with_hits hits.old (hits_in (kind_of_point point.now) spans.now pid
-        (all_asked count (passes watch.old.mode watch.old.owners.now true) regs.old (passed_bytes watch.old.mode watch.old.owners.now watch.old.mem.now))) }
+    requires { IsWatcher F.pre F.post watcher.now }
+    ensures leaves { StepsLeave count regs.old watch.old result regs.new watch.new }
+    ensures keeps { KeepsWatch watch.old watch.new }
+    ensures hits { hits.new ≡ found_behind (watched_by watcher.now) pid count regs.old watch.old hits.old }
 {
-    let near = Near::of(spans);
+    let near = Near::of(watcher.spans);
     let mut done = 0;
     while done < count {
         let run = run_near(regs, watch, near, count - done);
         done += run.progress.done;
-        tell(run.seen, pid, point, spans, hits);
+        tell(run.seen, pid, watcher, hits);
         if run.progress.stop != Stop::Next {
             return Progress {
                 done,
@@ -152,27 +129,16 @@ pub fn run_watched<F: Fn(&[Span], u32, u32) -> bool>(
     watch: &mut Watch<'_>,
     count: u32,
     pid: u32,
-    point: &WatchPoint<F>,
-    spans: &[Span],
+    watcher: &Watcher<'_, F>,
     hits: &mut Hits,
 ) -> Progress
-    requires point { IsPoint F.pre F.post point.now }
-    requires spans { AreSpans spans.now }
-    ensures leaves { ran regs.new (passed_bytes watch.old.mode watch.old.owners.now watch.new.mem.now) result.done result.stop
-        ≡ instructions count (passes watch.old.mode watch.old.owners.now true) regs.old (passed_bytes watch.old.mode watch.old.owners.now watch.old.mem.now) }
-    ensures frozen { kept_bytes watch.old.mode watch.old.owners.now watch.new.mem.now ≡ kept_bytes watch.old.mode watch.old.owners.now watch.old.mem.now }
-    ensures length { length watch.new.mem.now ≡ length watch.old.mem.now }
-    ensures owners { watch.new.owners.now ≡ watch.old.owners.now }
-    ensures mode { watch.new.mode ≡ watch.old.mode }
-    ensures first { first_stray watch.new ≡ stray_after_all watch.old.owners.now (first_stray watch.old)
-        (all_asked count (passes watch.old.mode watch.old.owners.now true) regs.old (passed_bytes watch.old.mode watch.old.owners.now watch.old.mem.now)) }
-    ensures halts { watch.old.mode ≡ Halt → first_stray watch.new ≡ stray_after_stop (first_stray watch.old) result.stop }
-    ensures same_reference { watch.new.mem.ghost_name ≡ watch.old.mem.ghost_name }
-    ensures hits { hits.new ≡ with_hits hits.old (hits_in (kind_of_point point.now) spans.now pid
-        (all_asked count (passes watch.old.mode watch.old.owners.now true) regs.old (passed_bytes watch.old.mode watch.old.owners.now watch.old.mem.now))) }
+    requires { IsWatcher F.pre F.post watcher.now }
+    ensures leaves { StepsLeave count regs.old watch.old result regs.new watch.new }
+    ensures keeps { KeepsWatch watch.old watch.new }
+    ensures hits { hits.new ≡ found_behind (watched_by watcher.now) pid count regs.old watch.old hits.old }
 {
-    if spans.is_empty() {
+    if watcher.spans.is_empty() {
         return run_steps(regs, watch, count);
     }
-    run_beside(regs, watch, count, pid, point, spans, hits)
+    run_beside(regs, watch, count, pid, watcher, hits)
 }

@@ -13,10 +13,10 @@ invariant-loop-events g l = record {
   ready : CanRun l.parts.kept.procs l.pid;
   within : l.events ≤ l.count;
   programs : l.parts.programs ≡ l.fn.parts.programs;
-  mode : l.parts.mode ≡ l.mode;
+  mode : l.parts.mode ≡ l.fn.parts.mode;
   noted : l.parts.noted ≡ has_stray l.parts.kept.notes;
-  halts : l.mode ≡ Halt → HaltReached (kind_of l.chooser) l.fn.parts.programs (kind_of_point l.watcher.point.now) l.watcher.spans.now l.pid l.fn.hits l.fn.parts.kept l.events l.hits l.parts.kept;
-  goes_on : l.mode ≡ GoOn → GoOnReached (kind_of l.chooser) l.fn.parts.programs (kind_of_point l.watcher.point.now) l.watcher.spans.now l.pid l.fn.hits l.fn.parts.kept l.events l.hits l.parts.kept;
+  halts : l.fn.parts.mode ≡ Halt → HaltReached (kind_of l.hooks.chooser.now) l.fn.parts.programs (kind_of_point l.hooks.watcher.now.point.now) l.hooks.watcher.now.spans.now l.pid l.fn.hits l.fn.parts.kept l.events l.hits l.parts.kept;
+  goes_on : l.fn.parts.mode ≡ GoOn → GoOnReached (kind_of l.hooks.chooser.now) l.fn.parts.programs (kind_of_point l.hooks.watcher.now.point.now) l.hooks.watcher.now.spans.now l.pid l.fn.hits l.fn.parts.kept l.events l.hits l.parts.kept;
 }
 
 abbrev pub decreases-loop-events : goal.decreases-loop-events

@@ -1,16 +1,28 @@
 -- Within what the parts reach.
-use Rattle.std.proofs.Common.{sym, subst, ◌∙◌}
-use Rattle.kept_parts.specs.InMemory.{physical_of}
-use Rattle.kept_parts.specs.Stands.{later}
-use Rattle.kept_parts.specs.declared.reach.Reach.{Reach}
-use Rattle.flat_machine.specs.LeavesIn.{HaltsWithin}
+use Rattle.std.proofs.Common.{rules, sym, subst, ◌∙◌}
+use Rattle.region_watch.specs.declared.mode.Mode.{Mode}
+use Rattle.watch_points.specs.Watchers.{watched_by}
+use Rattle.flat_machine.specs.Steps.{MemorySteps}
 use Rattle.flat_machine.proofs.TurnsIn.{own_of}
 use Rattle.flat_machine.proofs.turn.instructions.Goals as goal
 
-pub returns-clause-halts : goal.returns-clause-halts
-returns-clause-halts g c quiet = c.advance.ensures.halts (own_of c.reach-within.result (sym c.reach-within.ensures.strayed ∙ quiet))
+pub returns-clause-keeps : goal.returns-clause-keeps
+returns-clause-keeps g c =
+    let v = c.parts.view_is in
+    let advanced = c.advance.ensures.keeps in
+    record {
+      keeps = record { programs = search rules; mode = search rules; noted = search rules };
+      ready = advanced.ready;
+      within = advanced.within;
+      notes = search rules;
+      still = λ none. let same = advanced.still none in search rules;
+    }
 
-pub returns-clause-halts_in : goal.returns-clause-halts_in
-returns-clause-halts_in g c headers a =
-    let is = rw (← c.parts.view_is) at c.reach-within.ensures.reach in
-    subst (λ (r : Reach). HaltsWithin r (physical_of headers (later c.advance.result.done a) c.advance.new.parts) c.args.pid c.args.count c.advance.result.done c.advance.result.stop) is (c.advance.ensures.halts_in headers a)
+pub returns-clause-own : goal.returns-clause-own
+returns-clause-own g c quiet = rw (← c.parts.view_is) (c.advance.ensures.own (own_of c.watch_mode-within.result (sym c.watch_mode-within.ensures.strayed ∙ quiet)))
+
+pub returns-clause-memory : goal.returns-clause-memory
+returns-clause-memory g c =
+    let v = c.parts.view_is in
+    let is = rw (← v) at c.watch_mode-within.ensures.mode in
+    rw (← v) (subst (λ (r : Mode). MemorySteps (watched_by c.args.watcher.now) c.args.pid c.args.count r c.parts.inside.kept c.args.hits.now c.advance.result c.advance.new.parts c.advance.new.hits) is c.advance.ensures.memory)

@@ -1,156 +1,128 @@
 -- An event that doesn't stray is that within reach, and one that does the run's first.
-use Rattle.std.proofs.Common.{◌≡◌, false, Some, Ok, refl, sym, ap, subst, ◌∙◌}
-use Rattle.std.specs.Prelude.{OnErr}
+use Rattle.std.proofs.Common.{◌≡◌, Ok, refl, sym, ap, subst, ◌∙◌}
 use Rattle.page_runs.specs.Choosers.{kind_of}
 use Rattle.byte_words.specs.declared.access.Access.{Access}
 use Rattle.rv32im_step.specs.declared.stop.Stop.TheVariants.{Refused}
-use Rattle.vfork_exec.specs.Procs.{CanRun}
-use Rattle.machine_world.specs.Event.{Outcome, strays, event}
-use Rattle.memory_world.specs.Physical.{has_stray, first_stray_in}
+use Rattle.machine_world.specs.Event.{Outcome, event}
 use Rattle.kept_parts.specs.Copies.{HoldsFiles}
-use Rattle.kept_parts.specs.Flats.{ForRuns}
 use Rattle.kept_parts.specs.InMemory.{headers_of, physical_of}
-use Rattle.kept_parts.specs.Kept.{Kept}
 use Rattle.kept_parts.specs.Reach.{reach_of}
-use Rattle.kept_parts.specs.declared.reach.Reach.TheVariants.{Own}
+use Rattle.region_watch.specs.declared.mode.Mode.TheVariants.{Halt}
 use Rattle.kept_parts.specs.Stands.{later, world_of}
 use Rattle.syscall_layer.specs.Parts.{RunParts}
 use Rattle.watch_points.specs.Points.{kind_of_point}
 use Rattle.flat_machine.specs.declared.turn.After.TheVariants.{Strays}
+use Rattle.flat_machine.specs.ByMode.{HaltStray, GoOnStray}
+use Rattle.flat_machine.specs.Hooks.{given_by}
+use Rattle.flat_machine.specs.Keeps.{EventKeeps, FirstStrays}
 use Rattle.flat_machine.specs.Leaves.{CarriedOrEnds, CarriedOrPast}
-use Rattle.flat_machine.specs.LeavesIn.{EventIn}
-use Rattle.flat_machine.specs.Hits.{turn_hits_in}
-use Rattle.flat_machine.specs.HitsLeft.{EventHits}
 use Rattle.flat_machine.proofs.TurnsIn.{own_quiet}
-use Rattle.flat_machine.proofs.EventsOn.{NotStray, as_ends, err_ends, err_past, strays_is, past_is, event_reach, carried_whole, err_in, hits_whole, err_hits, firm, stray_same, parts_same, if_ok, err_never}
+use Rattle.flat_machine.proofs.EventsOn.{NotStray, as_ends, err_ends, err_past, strays_is, past_is, event_reach, carried_whole, err_in, hits_whole, err_hits, firm, strayed_same, if_ok, err_never}
 use Rattle.flat_machine.proofs.turn.next_event.Goals as goal
 
 pub returns-in_default-clause-halts : goal.returns-in_default-clause-halts
 returns-in_default-clause-halts g c halt =
     let other : NotStray c.in_ok-after.after = λ access is. c.in_default.not-Strays access is in
     record {
-      carried = λ a so are. as_ends a c.args.parts.now.kept c.event_within.new.parts.kept c.args.pid (event (world_of a c.args.parts.now.kept) c.args.pid) c.in_ok-after.after other (c.in_ok-after.ensures.halts (c.requires.mode ∙ halt) a so are);
+      carried = λ a so are. as_ends a c.args.parts.now.kept c.event_within.new.parts.kept c.args.pid (event (world_of a c.args.parts.now.kept) c.args.pid) c.in_ok-after.after other (c.in_ok-after.ensures.halts halt a so are);
       holds = λ access is. absurd (other access (let same : c.in_ok-after.after ≡ Strays access = cc in same));
+      hits = refl;
     }
 
 pub returns-in_default-clause-goes_on : goal.returns-in_default-clause-goes_on
 returns-in_default-clause-goes_on g c go =
     let other : NotStray c.in_ok-after.after = λ access is. c.in_default.not-Strays access is in
+    let old = c.args.parts.now in
+    let new = c.event_within.new.parts.kept in
+    let headers = headers_of old.programs in
+    let within = c.in_ok-after.ensures.goes_on go in
+    let never = λ (own : reach_of old.noted ≡ Halt) (access : Access) (is : c.args.stop ≡ Refused access). other access
+    (let same : Ok c.in_ok-after.after ≡ Ok (Strays access) = c.in_ok-after.ensures.refuses (own_quiet old.kept old.noted c.requires.stands.noted own) access is in let here : c.in_ok-after.after ≡ Strays access = cc in here) in
     record {
-      memory = λ a so are. event_reach (headers_of c.args.parts.now.programs) a c.args.parts.now.kept c.event_within.new.parts.kept c.args.pid c.in_ok-after.after other (c.in_ok-after.ensures.memory (c.requires.mode ∙ go) a so are);
-      first = λ quiet a so are. c.in_ok-after.ensures.past (c.requires.mode ∙ go) quiet a so are;
+      whole = record {
+        memory = λ a so are. event_reach headers a old.kept new c.args.pid c.in_ok-after.after other (within.memory a so are);
+        hits = λ a so are.
+            hits_whole (kind_of_point c.args.hooks.now.watcher.now.point.now) c.args.hooks.now.watcher.now.spans.now c.args.pid headers a old.kept new c.args.stop
+            (firm (reach_of old.noted) (physical_of headers a old.kept) c.args.pid c.args.stop (c.requires.stands.memory headers a) never)
+            c.args.hits.now (Ok c.in_ok-after.after) (carried_whole headers a old.kept new c.args.pid c.in_ok-after.after other (within.memory a so are));
+      };
+      first = within.first;
     }
 
-pub returns-in_default-clause-hits_in : goal.returns-in_default-clause-hits_in
-returns-in_default-clause-hits_in g c go a so are =
-    let other : NotStray c.in_ok-after.after = λ access is. c.in_default.not-Strays access is in
-    let never = λ (own : reach_of c.args.parts.now.noted ≡ Own) (access : Access) (is : c.args.stop ≡ Refused access). other access
-    (let same : Ok c.in_ok-after.after ≡ Ok (Strays access) = c.in_ok-after.ensures.refuses (own_quiet c.args.parts.now.kept c.args.parts.now.noted c.requires.noted own) access is in let here : c.in_ok-after.after ≡ Strays access = cc in here) in
-    hits_whole (kind_of_point c.args.watcher.now.point.now) c.args.watcher.now.spans.now c.args.pid (headers_of c.args.parts.now.programs) a c.args.parts.now.kept c.event_within.new.parts.kept c.args.stop (firm (reach_of c.args.parts.now.noted) (physical_of (headers_of c.args.parts.now.programs) a c.args.parts.now.kept) c.args.pid c.args.stop (c.requires.stands_in (headers_of c.args.parts.now.programs) a) never)
-    c.args.hits.now (Ok c.in_ok-after.after) (carried_whole (headers_of c.args.parts.now.programs) a c.args.parts.now.kept c.event_within.new.parts.kept c.args.pid c.in_ok-after.after other (c.in_ok-after.ensures.memory (c.requires.mode ∙ go) a so are))
-
-pub stray-requires-clause-ready : goal.stray-requires-clause-ready
-stray-requires-clause-ready g c =
-    let halts = rw c.in-Strays.is at c.in_ok-after.ensures.halts in
-    let memory = rw c.in-Strays.is at c.in_ok-after.ensures.memory in
-    let so_it_is = stray_same (kind_of c.args.chooser.now) c.args.parts.now.programs c.args.parts.now.kept c.event_within.new.parts.kept c.args.pid c.in-Strays.access c.args.mode c.requires.halting (λ halt. halts (c.requires.mode ∙ halt)) (λ go. memory (c.requires.mode ∙ go)) in
-    let same = parts_same c.args.parts.now c.event_within.new.parts so_it_is.0 c.in_ok-after.ensures.programs c.in_ok-after.ensures.mode (c.in_ok-after.ensures.noted ∙ ap (λ (k : Kept). has_stray k.notes) so_it_is.0 ∙ sym c.requires.noted) in
-    subst (λ (p : RunParts). CanRun p.kept.procs c.args.pid) (sym same) c.requires.ready
-
-pub stray-requires-clause-quiet : goal.stray-requires-clause-quiet
-stray-requires-clause-quiet g c =
-    let halts = rw c.in-Strays.is at c.in_ok-after.ensures.halts in
-    let memory = rw c.in-Strays.is at c.in_ok-after.ensures.memory in
-    let so_it_is = stray_same (kind_of c.args.chooser.now) c.args.parts.now.programs c.args.parts.now.kept c.event_within.new.parts.kept c.args.pid c.in-Strays.access c.args.mode c.requires.halting (λ halt. halts (c.requires.mode ∙ halt)) (λ go. memory (c.requires.mode ∙ go)) in
-    let same = parts_same c.args.parts.now c.event_within.new.parts so_it_is.0 c.in_ok-after.ensures.programs c.in_ok-after.ensures.mode (c.in_ok-after.ensures.noted ∙ ap (λ (k : Kept). has_stray k.notes) so_it_is.0 ∙ sym c.requires.noted) in
-    subst (λ (p : RunParts). has_stray p.kept.notes ≡ false) (sym same) so_it_is.1
+-- ---- an event that strays leaves all as it was
 
 pub stray-requires-clause-first : goal.stray-requires-clause-first
-stray-requires-clause-first g c go =
+stray-requires-clause-first g c =
+    let old = c.args.parts.now in
+    let within = rw c.in-Strays.is at c.in_ok-after.ensures.goes_on in
     let halts = rw c.in-Strays.is at c.in_ok-after.ensures.halts in
-    let memory = rw c.in-Strays.is at c.in_ok-after.ensures.memory in
-    let so_it_is = stray_same (kind_of c.args.chooser.now) c.args.parts.now.programs c.args.parts.now.kept c.event_within.new.parts.kept c.args.pid c.in-Strays.access c.args.mode c.requires.halting (λ halt. halts (c.requires.mode ∙ halt)) (λ go. memory (c.requires.mode ∙ go)) in
-    let same = parts_same c.args.parts.now c.event_within.new.parts so_it_is.0 c.in_ok-after.ensures.programs c.in_ok-after.ensures.mode (c.in_ok-after.ensures.noted ∙ ap (λ (k : Kept). has_stray k.notes) so_it_is.0 ∙ sym c.requires.noted) in
-    let first : ForRuns (kind_of c.args.chooser.now) c.args.parts.now.programs (λ a. first_stray_in (physical_of (headers_of c.args.parts.now.programs) a c.args.parts.now.kept) c.args.pid ≡ Some c.in-Strays.access) = λ a so are. (memory (c.requires.mode ∙ go) a so are).0 in
-    subst (λ (p : RunParts). ForRuns (kind_of c.args.chooser.now) p.programs (λ a. first_stray_in (physical_of (headers_of p.programs) a p.kept) c.args.pid ≡ Some c.in-Strays.access)) (sym same) first
+    let it = strayed_same (kind_of c.args.hooks.now.chooser.now) old c.event_within.new.parts c.args.pid c.in-Strays.access c.requires.stands.may.halting halts within c.requires.stands.noted c.in_ok-after.ensures.keeps.keeps in
+    let first : FirstStrays (kind_of c.args.hooks.now.chooser.now) old c.args.pid c.in-Strays.access =
+    record { ready = c.requires.stands.may.ready; noted = c.requires.stands.noted; quiet = it.1; first = λ go a so are. ((within go).memory a so are).0 } in
+    subst (λ (p : RunParts). FirstStrays (kind_of c.args.hooks.now.chooser.now) p c.args.pid c.in-Strays.access) (sym it.0) first
+
+pub returns-clause-keeps : goal.returns-clause-keeps
+returns-clause-keeps g c =
+    let old = c.args.parts.now in
+    let within = rw c.in-Strays.is at c.in_ok-after.ensures.goes_on in
+    let halts = rw c.in-Strays.is at c.in_ok-after.ensures.halts in
+    let it = strayed_same (kind_of c.args.hooks.now.chooser.now) old c.event_within.new.parts c.args.pid c.in-Strays.access c.requires.stands.may.halting halts within c.requires.stands.noted c.in_ok-after.ensures.keeps.keeps in
+    subst (λ (p : RunParts). EventKeeps p c.stray.new.parts c.stray.result) it.0 c.stray.ensures.keeps
 
 pub returns-clause-halts : goal.returns-clause-halts
 returns-clause-halts g c halt =
+    let old = c.args.parts.now in
+    let within = rw c.in-Strays.is at c.in_ok-after.ensures.goes_on in
     let halts = rw c.in-Strays.is at c.in_ok-after.ensures.halts in
-    let memory = rw c.in-Strays.is at c.in_ok-after.ensures.memory in
-    let so_it_is = stray_same (kind_of c.args.chooser.now) c.args.parts.now.programs c.args.parts.now.kept c.event_within.new.parts.kept c.args.pid c.in-Strays.access c.args.mode c.requires.halting (λ halt. halts (c.requires.mode ∙ halt)) (λ go. memory (c.requires.mode ∙ go)) in
-    let same = parts_same c.args.parts.now c.event_within.new.parts so_it_is.0 c.in_ok-after.ensures.programs c.in_ok-after.ensures.mode (c.in_ok-after.ensures.noted ∙ ap (λ (k : Kept). has_stray k.notes) so_it_is.0 ∙ sym c.requires.noted) in
+    let it = strayed_same (kind_of c.args.hooks.now.chooser.now) old c.event_within.new.parts c.args.pid c.in-Strays.access c.requires.stands.may.halting halts within c.requires.stands.noted c.in_ok-after.ensures.keeps.keeps in
+    let same = it.0 in
+    let strayed : HaltStray c.args.pid c.in-Strays.access old.kept c.args.hits.now c.stray.new.parts.kept c.stray.new.hits c.stray.result =
+    subst (λ (p : RunParts). HaltStray c.args.pid c.in-Strays.access p.kept c.args.hits.now c.stray.new.parts.kept c.stray.new.hits c.stray.result) same
+    (c.stray.ensures.halts (ap (λ (p : RunParts). p.mode) same ∙ halt)) in
     record {
       carried = λ a so are.
-          let is = strays_is a c.args.parts.now.kept c.event_within.new.parts.kept c.args.pid c.in-Strays.access (halts (c.requires.mode ∙ halt) a so are) in
-          subst (λ (o : Outcome). CarriedOrEnds a o c.args.parts.now.kept c.stray.new.parts.kept c.args.pid c.stray.result) (sym is)
-          (subst (λ (p : RunParts). CarriedOrEnds a (strays c.in-Strays.access) p.kept c.stray.new.parts.kept c.args.pid c.stray.result) same (c.stray.ensures.ends halt a));
-      holds = λ access is. if_ok (HoldsFiles c.stray.new.parts.kept) c.stray.result (Strays access) (c.stray.ensures.holds halt) is;
+          let is = strays_is a old.kept c.event_within.new.parts.kept c.args.pid c.in-Strays.access (halts halt a so are) in
+          subst (λ (o : Outcome). CarriedOrEnds a o old.kept c.stray.new.parts.kept c.args.pid c.stray.result) (sym is) (strayed.ends a);
+      holds = λ access is. if_ok (HoldsFiles c.stray.new.parts.kept) c.stray.result (Strays access) strayed.holds is;
+      hits = strayed.hits;
     }
 
 pub returns-clause-goes_on : goal.returns-clause-goes_on
 returns-clause-goes_on g c go =
+    let old = c.args.parts.now in
+    let within = rw c.in-Strays.is at c.in_ok-after.ensures.goes_on in
     let halts = rw c.in-Strays.is at c.in_ok-after.ensures.halts in
-    let memory = rw c.in-Strays.is at c.in_ok-after.ensures.memory in
-    let so_it_is = stray_same (kind_of c.args.chooser.now) c.args.parts.now.programs c.args.parts.now.kept c.event_within.new.parts.kept c.args.pid c.in-Strays.access c.args.mode c.requires.halting (λ halt. halts (c.requires.mode ∙ halt)) (λ go. memory (c.requires.mode ∙ go)) in
-    let same = parts_same c.args.parts.now c.event_within.new.parts so_it_is.0 c.in_ok-after.ensures.programs c.in_ok-after.ensures.mode (c.in_ok-after.ensures.noted ∙ ap (λ (k : Kept). has_stray k.notes) so_it_is.0 ∙ sym c.requires.noted) in
-    let past = rw c.in-Strays.is at c.in_ok-after.ensures.past in
+    let it = strayed_same (kind_of c.args.hooks.now.chooser.now) old c.event_within.new.parts c.args.pid c.in-Strays.access c.requires.stands.may.halting halts within c.requires.stands.noted c.in_ok-after.ensures.keeps.keeps in
+    let same = it.0 in
+    let strayed : GoOnStray (given_by c.args.hooks.now old.programs) c.args.pid c.in-Strays.access old.kept c.args.hits.now c.stray.new.parts.kept c.stray.new.hits c.stray.result =
+    subst (λ (p : RunParts). GoOnStray (given_by c.args.hooks.now p.programs) c.args.pid c.in-Strays.access p.kept c.args.hits.now c.stray.new.parts.kept c.stray.new.hits c.stray.result) same
+    (c.stray.ensures.goes_on (ap (λ (p : RunParts). p.mode) same ∙ go)) in
     record {
-      memory = subst (λ (p : RunParts). ForRuns (kind_of c.args.chooser.now) p.programs (λ a. EventIn (headers_of p.programs) a p.kept c.stray.new.parts.kept c.args.pid c.stray.result)) same (c.stray.ensures.memory go);
+      whole = strayed.whole;
       first = λ quiet a so are.
-          let is = past_is a c.args.parts.now.kept c.event_within.new.parts.kept c.args.pid c.in-Strays.access (past (c.requires.mode ∙ go) quiet a so are) in
-          subst (λ (o : Outcome). CarriedOrPast a o c.args.parts.now.kept c.stray.new.parts.kept c.args.pid c.stray.result) (sym is)
-          (subst (λ (p : RunParts). CarriedOrPast a (strays c.in-Strays.access) p.kept c.stray.new.parts.kept c.args.pid c.stray.result) same (c.stray.ensures.past go a));
+          let is = past_is a old.kept c.event_within.new.parts.kept c.args.pid c.in-Strays.access ((within go).first quiet a so are) in
+          subst (λ (o : Outcome). CarriedOrPast a o old.kept c.stray.new.parts.kept c.args.pid c.stray.result) (sym is) (strayed.past a);
     }
-
-pub returns-clause-hits_in : goal.returns-clause-hits_in
-returns-clause-hits_in g c go =
-    let halts = rw c.in-Strays.is at c.in_ok-after.ensures.halts in
-    let memory = rw c.in-Strays.is at c.in_ok-after.ensures.memory in
-    let so_it_is = stray_same (kind_of c.args.chooser.now) c.args.parts.now.programs c.args.parts.now.kept c.event_within.new.parts.kept c.args.pid c.in-Strays.access c.args.mode c.requires.halting (λ halt. halts (c.requires.mode ∙ halt)) (λ go. memory (c.requires.mode ∙ go)) in
-    let same = parts_same c.args.parts.now c.event_within.new.parts so_it_is.0 c.in_ok-after.ensures.programs c.in_ok-after.ensures.mode (c.in_ok-after.ensures.noted ∙ ap (λ (k : Kept). has_stray k.notes) so_it_is.0 ∙ sym c.requires.noted) in
-    subst (λ (p : RunParts). ForRuns (kind_of c.args.chooser.now) p.programs (λ a. EventHits (turn_hits_in (kind_of_point c.args.watcher.now.point.now) c.args.watcher.now.spans.now c.args.pid) c.args.hits.now c.stray.new.hits (physical_of (headers_of p.programs) a p.kept) (physical_of (headers_of p.programs) (later 1 a) c.stray.new.parts.kept) c.stray.result)) same (c.stray.ensures.hits_in go)
-
-pub returns-clause-programs : goal.returns-clause-programs
-returns-clause-programs g c =
-    let halts = rw c.in-Strays.is at c.in_ok-after.ensures.halts in
-    let memory = rw c.in-Strays.is at c.in_ok-after.ensures.memory in
-    let so_it_is = stray_same (kind_of c.args.chooser.now) c.args.parts.now.programs c.args.parts.now.kept c.event_within.new.parts.kept c.args.pid c.in-Strays.access c.args.mode c.requires.halting (λ halt. halts (c.requires.mode ∙ halt)) (λ go. memory (c.requires.mode ∙ go)) in
-    let same = parts_same c.args.parts.now c.event_within.new.parts so_it_is.0 c.in_ok-after.ensures.programs c.in_ok-after.ensures.mode (c.in_ok-after.ensures.noted ∙ ap (λ (k : Kept). has_stray k.notes) so_it_is.0 ∙ sym c.requires.noted) in
-    c.stray.ensures.programs ∙ ap (λ (p : RunParts). p.programs) same
-
-pub returns-clause-mode : goal.returns-clause-mode
-returns-clause-mode g c =
-    let halts = rw c.in-Strays.is at c.in_ok-after.ensures.halts in
-    let memory = rw c.in-Strays.is at c.in_ok-after.ensures.memory in
-    let so_it_is = stray_same (kind_of c.args.chooser.now) c.args.parts.now.programs c.args.parts.now.kept c.event_within.new.parts.kept c.args.pid c.in-Strays.access c.args.mode c.requires.halting (λ halt. halts (c.requires.mode ∙ halt)) (λ go. memory (c.requires.mode ∙ go)) in
-    let same = parts_same c.args.parts.now c.event_within.new.parts so_it_is.0 c.in_ok-after.ensures.programs c.in_ok-after.ensures.mode (c.in_ok-after.ensures.noted ∙ ap (λ (k : Kept). has_stray k.notes) so_it_is.0 ∙ sym c.requires.noted) in
-    c.stray.ensures.mode ∙ ap (λ (p : RunParts). p.mode) same
-
-pub returns-clause-unchanged : goal.returns-clause-unchanged
-returns-clause-unchanged g c =
-    let halts = rw c.in-Strays.is at c.in_ok-after.ensures.halts in
-    let memory = rw c.in-Strays.is at c.in_ok-after.ensures.memory in
-    let so_it_is = stray_same (kind_of c.args.chooser.now) c.args.parts.now.programs c.args.parts.now.kept c.event_within.new.parts.kept c.args.pid c.in-Strays.access c.args.mode c.requires.halting (λ halt. halts (c.requires.mode ∙ halt)) (λ go. memory (c.requires.mode ∙ go)) in
-    let same = parts_same c.args.parts.now c.event_within.new.parts so_it_is.0 c.in_ok-after.ensures.programs c.in_ok-after.ensures.mode (c.in_ok-after.ensures.noted ∙ ap (λ (k : Kept). has_stray k.notes) so_it_is.0 ∙ sym c.requires.noted) in
-    subst (λ (p : RunParts). OnErr c.stray.result (c.stray.new.parts ≡ p)) same c.stray.ensures.unchanged
 
 pub returns-in_err-after-clause-halts : goal.returns-in_err-after-clause-halts
 returns-in_err-after-clause-halts g c halt =
-    let same = ap (λ (p : RunParts). p.kept) c.in_err-after.ensures.unchanged in
+    let same = ap (λ (p : RunParts). p.kept) c.in_err-after.ensures.keeps.unchanged in
     record {
       carried = λ a so are. err_ends a c.args.parts.now.kept c.event_within.new.parts.kept c.args.pid (event (world_of a c.args.parts.now.kept) c.args.pid) c.from_residual.result c.from_residual.ensures.0 same;
       holds = λ access is. absurd (err_never c.from_residual.result (Strays access) c.from_residual.ensures.0 is);
+      hits = refl;
     }
 
 pub returns-in_err-after-clause-goes_on : goal.returns-in_err-after-clause-goes_on
 returns-in_err-after-clause-goes_on g c go =
-    let same = ap (λ (p : RunParts). p.kept) c.in_err-after.ensures.unchanged in
+    let headers = headers_of c.args.parts.now.programs in
+    let same = ap (λ (p : RunParts). p.kept) c.in_err-after.ensures.keeps.unchanged in
     record {
-      memory = λ a so are. err_in (headers_of c.args.parts.now.programs) a c.args.parts.now.kept c.event_within.new.parts.kept c.args.pid c.from_residual.result c.from_residual.ensures.0 same;
+      whole = record {
+        memory = λ a so are. err_in headers a c.args.parts.now.kept c.event_within.new.parts.kept c.args.pid c.from_residual.result c.from_residual.ensures.0 same;
+        hits = λ a so are.
+            err_hits (kind_of_point c.args.hooks.now.watcher.now.point.now) c.args.hooks.now.watcher.now.spans.now c.args.pid c.args.hits.now c.args.hits.now (physical_of headers a c.args.parts.now.kept)
+            (physical_of headers (later 1 a) c.event_within.new.parts.kept) c.from_residual.result c.from_residual.ensures.0 refl;
+      };
       first = λ quiet a so are. err_past a c.args.parts.now.kept c.event_within.new.parts.kept c.args.pid (event (world_of a c.args.parts.now.kept) c.args.pid) c.from_residual.result c.from_residual.ensures.0 same;
     }
-
-pub returns-in_err-after-clause-hits_in : goal.returns-in_err-after-clause-hits_in
-returns-in_err-after-clause-hits_in g c go a so are =
-    err_hits (kind_of_point c.args.watcher.now.point.now) c.args.watcher.now.spans.now c.args.pid c.args.hits.now c.args.hits.now (physical_of (headers_of c.args.parts.now.programs) a c.args.parts.now.kept) (physical_of (headers_of c.args.parts.now.programs) (later 1 a) c.event_within.new.parts.kept) c.from_residual.result c.from_residual.ensures.0 refl

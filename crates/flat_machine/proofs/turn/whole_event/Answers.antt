@@ -23,60 +23,65 @@ use Rattle.flat_machine.proofs.TurnsIn.{reach_noted, all_within, less_within, st
 use Rattle.flat_machine.proofs.EventsOn.{carried_noted, event_whole, hits_whole, none_hit_by, firm_whole}
 use Rattle.flat_machine.proofs.turn.whole_event.Goals as goal
 
-pub returns-then-eq-clause-memory : goal.returns-then-eq-clause-memory
-returns-then-eq-clause-memory g c a so are =
-    let is : c.instructions-progress.result.stop ≡ Next = search rules in
-    let one = all_within (reach_of c.instructions-progress.new.parts.noted) (physical_of (headers_of c.args.parts.now.programs) (later c.instructions-progress.result.done a) c.instructions-progress.new.parts.kept) c.args.pid 1 c.instructions-progress.result.done c.instructions-progress.result.stop is (c.instructions-progress.ensures.halts_in (headers_of c.args.parts.now.programs) a) in
-    (subst (λ (n : ℕ). LeadsIn c.args.pid (physical_of (headers_of c.args.parts.now.programs) a c.args.parts.now.kept) n (physical_of (headers_of c.args.parts.now.programs) (later n a) c.instructions-progress.new.parts.kept)) one (c.instructions-progress.ensures.leads_in (headers_of c.args.parts.now.programs) a), c.instructions-progress.ensures.ready)
-
-pub returns-then-eq-clause-hits : goal.returns-then-eq-clause-hits
-returns-then-eq-clause-hits g c a so are =
-    let is : c.instructions-progress.result.stop ≡ Next = search rules in
-    let one = all_within (reach_of c.instructions-progress.new.parts.noted) (physical_of (headers_of c.args.parts.now.programs) (later c.instructions-progress.result.done a) c.instructions-progress.new.parts.kept) c.args.pid 1 c.instructions-progress.result.done c.instructions-progress.result.stop is (c.instructions-progress.ensures.halts_in (headers_of c.args.parts.now.programs) a) in
-    subst (λ (n : ℕ). HitsLead (turn_hits_in (kind_of_point c.args.watcher.now.point.now) c.args.watcher.now.spans.now c.args.pid) c.args.hits.now c.instructions-progress.new.hits (physical_of (headers_of c.args.parts.now.programs) a c.args.parts.now.kept) n (physical_of (headers_of c.args.parts.now.programs) (later n a) c.instructions-progress.new.parts.kept)) one (c.instructions-progress.ensures.hits_in (headers_of c.args.parts.now.programs) a)
+pub returns-then-eq-clause-event : goal.returns-then-eq-clause-event
+returns-then-eq-clause-event g c = record {
+  memory = λ a so are.
+      let is : c.instructions-progress.result.stop ≡ Next = search rules in
+      let one = all_within (reach_of c.instructions-progress.new.parts.noted) (physical_of (headers_of c.args.parts.now.programs) (later c.instructions-progress.result.done a) c.instructions-progress.new.parts.kept) c.args.pid 1 c.instructions-progress.result.done c.instructions-progress.result.stop is (c.instructions-progress.ensures.memory.halts (headers_of c.args.parts.now.programs) a) in
+      (subst (λ (n : ℕ). LeadsIn c.args.pid (physical_of (headers_of c.args.parts.now.programs) a c.args.parts.now.kept) n (physical_of (headers_of c.args.parts.now.programs) (later n a) c.instructions-progress.new.parts.kept)) one (c.instructions-progress.ensures.memory.leads (headers_of c.args.parts.now.programs) a), c.instructions-progress.ensures.keeps.ready);
+  hits = λ a so are.
+      let is : c.instructions-progress.result.stop ≡ Next = search rules in
+      let one = all_within (reach_of c.instructions-progress.new.parts.noted) (physical_of (headers_of c.args.parts.now.programs) (later c.instructions-progress.result.done a) c.instructions-progress.new.parts.kept) c.args.pid 1 c.instructions-progress.result.done c.instructions-progress.result.stop is (c.instructions-progress.ensures.memory.halts (headers_of c.args.parts.now.programs) a) in
+      subst (λ (n : ℕ). HitsLead (turn_hits_in (kind_of_point c.args.watcher.now.point.now) c.args.watcher.now.spans.now c.args.pid) c.args.hits.now c.instructions-progress.new.hits (physical_of (headers_of c.args.parts.now.programs) a c.args.parts.now.kept) n (physical_of (headers_of c.args.parts.now.programs) (later n a) c.instructions-progress.new.parts.kept)) one (c.instructions-progress.ensures.memory.hits (headers_of c.args.parts.now.programs) a);
+}
 
 pub event_within-requires-clause-stands : goal.event_within-requires-clause-stands
-event_within-requires-clause-stands g c quiet =
-    absurd (false≢true (sym quiet ∙ ap has_stray c.instructions-progress.ensures.notes ∙ c.requires.strayed))
-
-pub event_within-requires-clause-stands_in : goal.event_within-requires-clause-stands_in
-event_within-requires-clause-stands_in g c =
+event_within-requires-clause-stands g c =
     let other : c.instructions-progress.result.stop ≢ Next = search rules in
-    standing (reach_of c.instructions-progress.new.parts.noted) c.instructions-progress.new.parts.kept c.args.pid 1 c.instructions-progress.result.done c.instructions-progress.result.stop other c.instructions-progress.ensures.halts_in
+    record {
+      may = record {
+        ready = c.instructions-progress.ensures.keeps.ready;
+        halting = λ halt. absurd (let both : Halt ≡ GoOn = sym halt ∙ c.instructions-progress.ensures.keeps.keeps.mode ∙ c.requires.behind.goes_on in cc);
+      };
+      noted = c.instructions-progress.ensures.keeps.keeps.noted;
+      own = λ quiet. absurd (false≢true (sym quiet ∙ ap has_stray c.instructions-progress.ensures.keeps.notes ∙ c.requires.behind.strayed));
+      memory = standing (reach_of c.instructions-progress.new.parts.noted) c.instructions-progress.new.parts.kept c.args.pid 1 c.instructions-progress.result.done c.instructions-progress.result.stop other c.instructions-progress.ensures.memory.halts;
+    }
 
-pub event_within-requires-clause-halting : goal.event_within-requires-clause-halting
-event_within-requires-clause-halting g c halt =
-    absurd (let both : Halt ≡ GoOn = sym halt ∙ c.instructions-progress.ensures.mode ∙ c.requires.goes_on in cc)
+pub returns-clause-event : goal.returns-clause-event
+returns-clause-event g c = record {
+  memory = λ a so are.
+      let other : c.instructions-progress.result.stop ≢ Next = search rules in
+      let less = less_within (reach_of c.instructions-progress.new.parts.noted) c.instructions-progress.new.parts.kept c.args.pid 1 c.instructions-progress.result.done c.instructions-progress.result.stop other c.instructions-progress.ensures.memory.halts in
+      let same = c.instructions-progress.ensures.keeps.still (omega (arith, less)) in
+      let within = subst (λ (ps : List Values). (a : About) → a.kind ≡ kind_of c.args.chooser.now → AreFlats a.programs ps → CarriedWithin (headers_of ps) a c.instructions-progress.new.parts.kept c.event_within.new.parts.kept c.args.pid c.event_within.result) (c.instructions-progress.ensures.keeps.keeps.programs) ((c.event_within.ensures.goes_on (c.instructions-progress.ensures.keeps.keeps.mode ∙ c.requires.behind.goes_on)).memory) in
+      let carried = carried_noted (headers_of c.args.parts.now.programs) a c.instructions-progress.new.parts.kept c.event_within.new.parts.kept c.args.pid (ap has_stray c.instructions-progress.ensures.keeps.notes ∙ c.requires.behind.strayed) c.event_within.result (within a so are) in
+      subst (λ (k : Kept). EventIn (headers_of c.args.parts.now.programs) a k c.event_within.new.parts.kept c.args.pid c.event_within.result) (ap (λ (p : RunParts). p.kept) same) (event_whole (headers_of c.args.parts.now.programs) a c.instructions-progress.new.parts.kept c.event_within.new.parts.kept c.args.pid c.event_within.result carried);
+  hits = λ a so are.
+      let other : c.instructions-progress.result.stop ≢ Next = search rules in
+      let less = less_within (reach_of c.instructions-progress.new.parts.noted) c.instructions-progress.new.parts.kept c.args.pid 1 c.instructions-progress.result.done c.instructions-progress.result.stop other c.instructions-progress.ensures.memory.halts in
+      let none : c.instructions-progress.result.done ≡ 0 = omega (arith, less) in
+      let same = c.instructions-progress.ensures.keeps.still none in
+      let lead = subst (λ (n : ℕ). HitsLead (turn_hits_in (kind_of_point c.args.watcher.now.point.now) c.args.watcher.now.spans.now c.args.pid) c.args.hits.now c.instructions-progress.new.hits (physical_of (headers_of c.args.parts.now.programs) a c.args.parts.now.kept) n (physical_of (headers_of c.args.parts.now.programs) (later n a) c.instructions-progress.new.parts.kept)) none (c.instructions-progress.ensures.memory.hits (headers_of c.args.parts.now.programs) a) in
+      let kept = none_hit_by (kind_of_point c.args.watcher.now.point.now) c.args.watcher.now.spans.now c.args.pid c.args.hits.now c.instructions-progress.new.hits (physical_of (headers_of c.args.parts.now.programs) a c.args.parts.now.kept) (physical_of (headers_of c.args.parts.now.programs) (later 0 a) c.instructions-progress.new.parts.kept) lead in
+      let within = subst (λ (ps : List Values). (a : About) → a.kind ≡ kind_of c.args.chooser.now → AreFlats a.programs ps → CarriedWithin (headers_of ps) a c.instructions-progress.new.parts.kept c.event_within.new.parts.kept c.args.pid c.event_within.result) (c.instructions-progress.ensures.keeps.keeps.programs) ((c.event_within.ensures.goes_on (c.instructions-progress.ensures.keeps.keeps.mode ∙ c.requires.behind.goes_on)).memory) in
+      let carried = carried_noted (headers_of c.args.parts.now.programs) a c.instructions-progress.new.parts.kept c.event_within.new.parts.kept c.args.pid (ap has_stray c.instructions-progress.ensures.keeps.notes ∙ c.requires.behind.strayed) c.event_within.result (within a so are) in
+      let whole : is_whole (reach_of c.instructions-progress.new.parts.noted) ≡ true = reach_noted c.instructions-progress.new.parts.noted ∙ c.instructions-progress.ensures.keeps.keeps.noted ∙ ap has_stray c.instructions-progress.ensures.keeps.notes ∙ c.requires.behind.strayed in
+      let here = hits_whole (kind_of_point c.args.watcher.now.point.now) c.args.watcher.now.spans.now c.args.pid (headers_of c.args.parts.now.programs) a c.instructions-progress.new.parts.kept c.event_within.new.parts.kept c.instructions-progress.result.stop
+      (firm_whole (reach_of c.instructions-progress.new.parts.noted) (physical_of (headers_of c.args.parts.now.programs) a c.instructions-progress.new.parts.kept) c.args.pid c.instructions-progress.result.stop whole (standing (reach_of c.instructions-progress.new.parts.noted) c.instructions-progress.new.parts.kept c.args.pid 1 c.instructions-progress.result.done c.instructions-progress.result.stop other c.instructions-progress.ensures.memory.halts (headers_of c.args.parts.now.programs) a))
+      c.instructions-progress.new.hits c.event_within.result carried in
+      let from_old = subst (λ (k : Kept). EventHits (turn_hits_in (kind_of_point c.args.watcher.now.point.now) c.args.watcher.now.spans.now c.args.pid) c.instructions-progress.new.hits c.instructions-progress.new.hits (physical_of (headers_of c.args.parts.now.programs) a k) (physical_of (headers_of c.args.parts.now.programs) (later 1 a) c.event_within.new.parts.kept) c.event_within.result) (ap (λ (p : RunParts). p.kept) same) here in
+      subst (λ (f : Found). EventHits (turn_hits_in (kind_of_point c.args.watcher.now.point.now) c.args.watcher.now.spans.now c.args.pid) f c.instructions-progress.new.hits (physical_of (headers_of c.args.parts.now.programs) a c.args.parts.now.kept) (physical_of (headers_of c.args.parts.now.programs) (later 1 a) c.event_within.new.parts.kept) c.event_within.result) kept from_old;
+}
 
-pub returns-clause-memory : goal.returns-clause-memory
-returns-clause-memory g c a so are =
+pub returns-clause-keeps : goal.returns-clause-keeps
+returns-clause-keeps g c =
     let other : c.instructions-progress.result.stop ≢ Next = search rules in
-    let less = less_within (reach_of c.instructions-progress.new.parts.noted) c.instructions-progress.new.parts.kept c.args.pid 1 c.instructions-progress.result.done c.instructions-progress.result.stop other c.instructions-progress.ensures.halts_in in
-    let same = c.instructions-progress.ensures.still (omega (arith, less)) in
-    let within = subst (λ (ps : List Values). (a : About) → a.kind ≡ kind_of c.args.chooser.now → AreFlats a.programs ps → CarriedWithin (headers_of ps) a c.instructions-progress.new.parts.kept c.event_within.new.parts.kept c.args.pid c.event_within.result) (c.instructions-progress.ensures.programs) (c.event_within.ensures.memory (c.instructions-progress.ensures.mode ∙ c.requires.goes_on)) in
-    let carried = carried_noted (headers_of c.args.parts.now.programs) a c.instructions-progress.new.parts.kept c.event_within.new.parts.kept c.args.pid (ap has_stray c.instructions-progress.ensures.notes ∙ c.requires.strayed) c.event_within.result (within a so are) in
-    subst (λ (k : Kept). EventIn (headers_of c.args.parts.now.programs) a k c.event_within.new.parts.kept c.args.pid c.event_within.result) (ap (λ (p : RunParts). p.kept) same) (event_whole (headers_of c.args.parts.now.programs) a c.instructions-progress.new.parts.kept c.event_within.new.parts.kept c.args.pid c.event_within.result carried)
-
-pub returns-clause-hits : goal.returns-clause-hits
-returns-clause-hits g c a so are =
-    let other : c.instructions-progress.result.stop ≢ Next = search rules in
-    let less = less_within (reach_of c.instructions-progress.new.parts.noted) c.instructions-progress.new.parts.kept c.args.pid 1 c.instructions-progress.result.done c.instructions-progress.result.stop other c.instructions-progress.ensures.halts_in in
-    let none : c.instructions-progress.result.done ≡ 0 = omega (arith, less) in
-    let same = c.instructions-progress.ensures.still none in
-    let lead = subst (λ (n : ℕ). HitsLead (turn_hits_in (kind_of_point c.args.watcher.now.point.now) c.args.watcher.now.spans.now c.args.pid) c.args.hits.now c.instructions-progress.new.hits (physical_of (headers_of c.args.parts.now.programs) a c.args.parts.now.kept) n (physical_of (headers_of c.args.parts.now.programs) (later n a) c.instructions-progress.new.parts.kept)) none (c.instructions-progress.ensures.hits_in (headers_of c.args.parts.now.programs) a) in
-    let kept = none_hit_by (kind_of_point c.args.watcher.now.point.now) c.args.watcher.now.spans.now c.args.pid c.args.hits.now c.instructions-progress.new.hits (physical_of (headers_of c.args.parts.now.programs) a c.args.parts.now.kept) (physical_of (headers_of c.args.parts.now.programs) (later 0 a) c.instructions-progress.new.parts.kept) lead in
-    let within = subst (λ (ps : List Values). (a : About) → a.kind ≡ kind_of c.args.chooser.now → AreFlats a.programs ps → CarriedWithin (headers_of ps) a c.instructions-progress.new.parts.kept c.event_within.new.parts.kept c.args.pid c.event_within.result) (c.instructions-progress.ensures.programs) (c.event_within.ensures.memory (c.instructions-progress.ensures.mode ∙ c.requires.goes_on)) in
-    let carried = carried_noted (headers_of c.args.parts.now.programs) a c.instructions-progress.new.parts.kept c.event_within.new.parts.kept c.args.pid (ap has_stray c.instructions-progress.ensures.notes ∙ c.requires.strayed) c.event_within.result (within a so are) in
-    let whole : is_whole (reach_of c.instructions-progress.new.parts.noted) ≡ true = reach_noted c.instructions-progress.new.parts.noted ∙ c.instructions-progress.ensures.noted ∙ ap has_stray c.instructions-progress.ensures.notes ∙ c.requires.strayed in
-    let here = hits_whole (kind_of_point c.args.watcher.now.point.now) c.args.watcher.now.spans.now c.args.pid (headers_of c.args.parts.now.programs) a c.instructions-progress.new.parts.kept c.event_within.new.parts.kept c.instructions-progress.result.stop
-    (firm_whole (reach_of c.instructions-progress.new.parts.noted) (physical_of (headers_of c.args.parts.now.programs) a c.instructions-progress.new.parts.kept) c.args.pid c.instructions-progress.result.stop whole (standing (reach_of c.instructions-progress.new.parts.noted) c.instructions-progress.new.parts.kept c.args.pid 1 c.instructions-progress.result.done c.instructions-progress.result.stop other c.instructions-progress.ensures.halts_in (headers_of c.args.parts.now.programs) a))
-    c.instructions-progress.new.hits c.event_within.result carried in
-    let from_old = subst (λ (k : Kept). EventHits (turn_hits_in (kind_of_point c.args.watcher.now.point.now) c.args.watcher.now.spans.now c.args.pid) c.instructions-progress.new.hits c.instructions-progress.new.hits (physical_of (headers_of c.args.parts.now.programs) a k) (physical_of (headers_of c.args.parts.now.programs) (later 1 a) c.event_within.new.parts.kept) c.event_within.result) (ap (λ (p : RunParts). p.kept) same) here in
-    subst (λ (f : Found). EventHits (turn_hits_in (kind_of_point c.args.watcher.now.point.now) c.args.watcher.now.spans.now c.args.pid) f c.instructions-progress.new.hits (physical_of (headers_of c.args.parts.now.programs) a c.args.parts.now.kept) (physical_of (headers_of c.args.parts.now.programs) (later 1 a) c.event_within.new.parts.kept) c.event_within.result) kept from_old
-
-pub returns-clause-unchanged : goal.returns-clause-unchanged
-returns-clause-unchanged g c =
-    let other : c.instructions-progress.result.stop ≢ Next = search rules in
-    let less = less_within (reach_of c.instructions-progress.new.parts.noted) c.instructions-progress.new.parts.kept c.args.pid 1 c.instructions-progress.result.done c.instructions-progress.result.stop other c.instructions-progress.ensures.halts_in in
-    let same = c.instructions-progress.ensures.still (omega (arith, less)) in
-    subst (λ (p : RunParts). OnErr c.event_within.result (c.event_within.new.parts ≡ p)) same c.event_within.ensures.unchanged
+    let less = less_within (reach_of c.instructions-progress.new.parts.noted) c.instructions-progress.new.parts.kept c.args.pid 1 c.instructions-progress.result.done c.instructions-progress.result.stop other c.instructions-progress.ensures.memory.halts in
+    let same = c.instructions-progress.ensures.keeps.still (omega (arith, less)) in
+    let kept = c.event_within.ensures.keeps.keeps in
+    let before = c.instructions-progress.ensures.keeps.keeps in
+    record {
+      keeps = record { programs = kept.programs ∙ before.programs; mode = kept.mode ∙ before.mode; noted = kept.noted };
+      unchanged = subst (λ (p : RunParts). OnErr c.event_within.result (c.event_within.new.parts ≡ p)) same c.event_within.ensures.keeps.unchanged;
+    }

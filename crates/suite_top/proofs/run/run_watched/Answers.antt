@@ -10,34 +10,37 @@ use Rattle.suite_top.proofs.Hits.{some_told, are_spans}
 use Rattle.suite_top.proofs.Shown.{halts_with, goes_on_with}
 use Rattle.suite_top.proofs.run.run_watched.Goals as goal
 
-pub run_repeated_watched-requires-clause-spans : goal.run_repeated_watched-requires-clause-spans
-run_repeated_watched-requires-clause-spans g c =
-    rw (c.deref-3.ensures.value, c.in_ok-spans.ensures, c.deref.ensures.value) (are_spans c.args.course.now.watches.items c.requires.watches)
+pub run_repeated_watched-requires-clause-watcher : goal.run_repeated_watched-requires-clause-watcher
+run_repeated_watched-requires-clause-watcher g c = record {
+  point = c.requires.point;
+  spans = rw (c.deref-3.ensures.value, c.in_ok-spans.ensures, c.deref.ensures.value) (are_spans c.args.course.now.watches.items c.requires.watches);
+}
+
+pub run_repeated_watched-requires-clause-fits : goal.run_repeated_watched-requires-clause-fits
+run_repeated_watched-requires-clause-fits g c = record { kind = c.requires.kind; events = rw c.deref-2.ensures.value c.requires.events }
 
 pub returns-clause-halt : goal.returns-clause-halt
 returns-clause-halt g c =
     let course = c.args.course.now in
     let found = c.run_repeated_watched.new.hits in
     let spans = rw c.deref.ensures.value at c.in_ok-spans.ensures in
-    let runs = rw c.deref-2.ensures.value at c.in_ok-end.ensures.halts in
-    let follow = rw (c.deref-2.ensures.value, c.deref-3.ensures.value) at c.in_ok-end.ensures.hits in
+    let watched = rw (c.deref-2.ensures.value, c.deref-3.ensures.value) at c.in_ok-end.ensures.halts in
     let told = rw (c.deref-5.ensures, c.in_ok-shown.ensures, c.deref-4.ensures.value) at c.told.ensures in
     λ is.
     let some = some_told (watch_of c.args.telling) (kind_of_point c.args.point.now) course.watches.items (λ kind spans. hits kind spans (turns_of course) (world c.args.machine.now))
-    c.in_ok-spans.spans.items c.in_ok-hits.hits found (found_text found) c.requires.some spans c.in_ok-hits.ensures (follow (record { halts = is; quiet = c.requires.quiet })) refl in
-    halts_with c.args.telling (turns_of course) (found_text found) course.dumps.items c.args.machine.now c.run_repeated_watched.new.self c.in_ok-end.ensures.mode c.in_ok-end.end
-    c.told.result told course.watches.items some is c.requires.quiet runs
+    c.in_ok-spans.spans.items c.in_ok-hits.hits found (found_text found) c.requires.some spans c.in_ok-hits.ensures (watched (record { halts = is; quiet = c.requires.quiet })).hits refl in
+    halts_with c.args.telling (turns_of course) (found_text found) course.dumps.items c.args.machine.now c.run_repeated_watched.new.self c.in_ok-end.ensures.keeps.mode c.in_ok-end.end
+    c.told.result told course.watches.items some is c.requires.quiet (λ halting. (watched halting).runs)
 
 pub returns-clause-go_on : goal.returns-clause-go_on
 returns-clause-go_on g c =
     let course = c.args.course.now in
     let found = c.run_repeated_watched.new.hits in
     let spans = rw c.deref.ensures.value at c.in_ok-spans.ensures in
-    let runs = rw c.deref-2.ensures.value at c.in_ok-end.ensures.goes_on in
-    let follow = rw (c.deref-2.ensures.value, c.deref-3.ensures.value) at c.in_ok-end.ensures.hits_in in
+    let watched = rw (c.deref-2.ensures.value, c.deref-3.ensures.value) at c.in_ok-end.ensures.goes_on in
     let told = rw (c.deref-5.ensures, c.in_ok-shown.ensures, c.deref-4.ensures.value) at c.told.ensures in
     λ is.
     let some = some_told (watch_of c.args.telling) (kind_of_point c.args.point.now) course.watches.items (λ kind spans. hits_in_memory kind spans (turns_of course) (one_memory c.args.machine.now))
-    c.in_ok-spans.spans.items c.in_ok-hits.hits found (found_text found) c.requires.some spans c.in_ok-hits.ensures (follow is) refl in
-    goes_on_with c.args.telling (turns_of course) (found_text found) course.dumps.items c.args.machine.now c.run_repeated_watched.new.self c.in_ok-end.ensures.mode c.in_ok-end.end
-    c.told.result told course.watches.items some is runs
+    c.in_ok-spans.spans.items c.in_ok-hits.hits found (found_text found) c.requires.some spans c.in_ok-hits.ensures (watched is).hits refl in
+    goes_on_with c.args.telling (turns_of course) (found_text found) course.dumps.items c.args.machine.now c.run_repeated_watched.new.self c.in_ok-end.ensures.keeps.mode c.in_ok-end.end
+    c.told.result told course.watches.items some is (λ go. (watched go).runs)

@@ -1,5 +1,5 @@
 -- A step more, and what it saw.
-use Rattle.std.proofs.Common.{rules, ◌≡◌, ◌∙◌, true, inl, inr, refl, arith}
+use Rattle.std.proofs.Common.{rules, ◌≡◌, ◌≢◌, ◌∙◌, true, inl, inr, refl, arith}
 use Rattle.rv32im_step.specs.declared.stop.Stop.TheVariants.{Next}
 use Rattle.rv32im_step.specs.Asked.{asked}
 use Rattle.rv32im_step.specs.Parts.{registers}
@@ -20,21 +20,39 @@ returns-then-ne-clause-left c =
     c.loop-done.bus.bus.now.paged c.step_at-stop.ensures.means did.0.3 did.0.4 did.0.5 did.3)
     (search rules)
 
-pub returns-then-ne-clause-bound : goal.returns-then-ne-clause-bound
-returns-then-ne-clause-bound c = omega (arith, c.loop-done.invariant.bound)
+pub returns-then-ne-clause-comes : goal.returns-then-ne-clause-comes
+returns-then-ne-clause-comes c =
+    let other : c.step_at-stop.result ≢ Next = search rules in
+    record { bound = c.loop-done.invariant.bound; goes = λ some next. absurd (other next) }
+
+pub returns-then-ne-clause-keeps : goal.returns-then-ne-clause-keeps
+returns-then-ne-clause-keeps c =
+    let did = c.step_at-stop.ensures.did in
+    let before = c.loop-done.invariant in
+    record {
+      owners = did.0.1 ∙ before.owners;
+      mode = did.0.2 ∙ before.mode;
+      same_reference = did.0.0 ∙ before.name;
+    }
 
 pub returns-clause-left : goal.returns-clause-left
 returns-clause-left c = c.loop-done.invariant.left
 
-pub returns-clause-bound : goal.returns-clause-bound
-returns-clause-bound c = c.loop-done.invariant.bound
+pub returns-clause-comes : goal.returns-clause-comes
+returns-clause-comes c = record {
+  bound = c.loop-done.invariant.bound;
+  goes = λ some next. elim (end_reached c.args.bus.now.end c.loop-done.done c.loop-done.bus.seen c.loop-done.bus.end c.loop-done.invariant.ends c.loop-done-test.false some) [
+    | inl seen ↦ c.loop-done.invariant.goes seen
+    | inr all ↦ omega (arith, all, some)
+  ];
+}
 
-pub returns-clause-goes : goal.returns-clause-goes
-returns-clause-goes c = λ some next.
-    elim (end_reached c.args.bus.now.end c.loop-done.done c.loop-done.bus.seen c.loop-done.bus.end c.loop-done.invariant.ends c.loop-done-test.false some) [
-      | inl seen ↦ c.loop-done.invariant.goes seen
-      | inr all ↦ omega (arith, all, some)
-    ]
+pub returns-clause-keeps : goal.returns-clause-keeps
+returns-clause-keeps c = record {
+  owners = c.loop-done.invariant.owners;
+  mode = c.loop-done.invariant.mode;
+  same_reference = c.loop-done.invariant.name;
+}
 
 pub loop-done-init : goal.loop-done-init
 loop-done-init c = record {

@@ -20,10 +20,10 @@ loop-done-preserved g c =
     let before = c.loop-done.invariant in
     let next : c.run_near-run.result.progress.stop ≡ Next = search rules in
     record {
-      bound = omega (arith, run.bound, before.bound, c.loop-done-test.true);
-      owners = run.owners ∙ before.owners;
-      mode = run.mode ∙ before.mode;
-      name = run.same_reference ∙ before.name;
+      bound = omega (arith, run.comes.bound, before.bound, c.loop-done-test.true);
+      owners = run.keeps.owners ∙ before.owners;
+      mode = run.keeps.mode ∙ before.mode;
+      name = run.keeps.same_reference ∙ before.name;
       reached = reached_next c.args.count _ _ _ _ _ _ _ _ _ _ _ _ _ _ _ _ next
           (reached_on c.args.count _ _ _ _ _ _ _ _ _ _ _ _ _ _ _ _ _ _ _ _ _ _ _ _ before.mode before.owners before.reached run.left c.tell.ensures);
     }
@@ -32,7 +32,7 @@ pub loop-done-smaller : goal.loop-done-smaller
 loop-done-smaller g c =
     let run = c.run_near-run.ensures in
     let next : c.run_near-run.result.progress.stop ≡ Next = search rules in
-    let more = run.goes (omega (arith, c.loop-done-test.true)) next in
+    let more = run.comes.goes (omega (arith, c.loop-done-test.true)) next in
     omega (arith, more, c.loop-done-test.true)
 
 pub tell-requires-clause-range : goal.tell-requires-clause-range
@@ -46,14 +46,8 @@ returns-then-ne g c =
     let all = reached_told c.args.count _ _ _ _ _ _ _ _ _ _ _ _ _ _ _ _ (λ next. absurd (other next)) c.of-near.ensures
     (reached_on c.args.count _ _ _ _ _ _ _ _ _ _ _ _ _ _ _ _ _ _ _ _ _ _ _ _ before.mode before.owners before.reached run.left c.tell.ensures) in
     record {
-      leaves = all.leaves;
-      frozen = all.frozen;
-      length = all.size;
-      owners = run.owners ∙ before.owners;
-      mode = run.mode ∙ before.mode;
-      first = all.strays;
-      halts = all.halts;
-      same_reference = run.same_reference ∙ before.name;
+      leaves = record { leaves = all.leaves; frozen = all.frozen; size = all.size; first = all.strays; halts = all.halts };
+      keeps = record { owners = run.keeps.owners ∙ before.owners; mode = run.keeps.mode ∙ before.mode; same_reference = run.keeps.same_reference ∙ before.name };
       hits = all.hits;
     }
 
@@ -63,13 +57,7 @@ returns g c =
     let all = reached_told c.args.count _ _ _ _ _ _ _ _ _ _ _ _ _ _ _ _ (λ next. omega arith) c.of-near.ensures
     (reached_end c.args.count _ _ _ _ _ _ _ _ _ _ _ _ _ _ _ (omega (arith, before.bound, c.loop-done-test.false)) before.reached) in
     record {
-      leaves = all.leaves;
-      frozen = all.frozen;
-      length = all.size;
-      owners = before.owners;
-      mode = before.mode;
-      first = all.strays;
-      halts = all.halts;
-      same_reference = before.name;
+      leaves = record { leaves = all.leaves; frozen = all.frozen; size = all.size; first = all.strays; halts = all.halts };
+      keeps = record { owners = before.owners; mode = before.mode; same_reference = before.name };
       hits = all.hits;
     }

@@ -11,7 +11,7 @@ invariant-loop-done g l = record {
   owners : l.watch.owners.now ≡ l.fn.watch.owners.now;
   mode : l.watch.mode ≡ l.fn.watch.mode;
   name : l.watch.mem.ghost_name ≡ l.fn.watch.mem.ghost_name;
-  reached : Reached l.fn.count l.fn.watch.mode l.fn.watch.owners.now l.fn.regs l.fn.watch.mem.now l.fn.watch.first l.near (kind_of_point l.point) l.spans l.pid l.fn.hits
+  reached : Reached l.fn.count l.fn.watch.mode l.fn.watch.owners.now l.fn.regs l.fn.watch.mem.now l.fn.watch.first l.near (kind_of_point l.watcher.point.now) l.watcher.spans.now l.pid l.fn.hits
       l.done Next l.regs l.watch.mem.now l.watch.first l.hits;
 }
 

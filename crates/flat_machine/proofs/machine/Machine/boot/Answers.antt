@@ -18,6 +18,7 @@ use Rattle.alone_laws.proofs.StaysRuns.{boots_begin_stays}
 use Rattle.flat_machine.specs.State.{about_boot, line_of, lines_of, rest_of}
 use Rattle.flat_machine.proofs.Booted.{more_pids, more_spaces, more_processes, more_pages, more_quiet, left_on, left_fails, left_none, fails_as, boots_from, machine_boots, machine_loads, parts_boot, whole_reached}
 use Rattle.flat_machine.proofs.BootedIn.{lays_none, opened}
+use Rattle.flat_machine.proofs.TurnsOf.{noted_state}
 use Rattle.flat_machine.proofs.Waiting.{boots_wait_well}
 use Rattle.flat_machine.proofs.machine.Machine.boot.Goals as goal
 
@@ -73,13 +74,13 @@ invariant_of-result g c =
     let all = left_none c.deref-start-items.result.now c.loop-start.start-index (world_of a c.loop-start.parts) (all_started (world_of a c.in_ok-parts.parts) (lines_of c.deref-start-items.result.now))
     c.loop-start-test.false c.loop-start.invariant.left in
     let parts_is = parts_boot rest (lines_of c.deref-start-items.result.now) a c.loop-start.parts refl (sym (all ∙ first_is)) _ c.args.setup.programs.items c.args.setup.mode c.new-3.ensures in
-    let same : length (paths_of c.args.setup.paths.items) ≡ length c.args.setup.programs.items = length-map c.args.setup.paths.items (λ p. p.items) ∙ c.requires.paths in
-    let few : length (lines_of c.deref-start-items.result.now) ≤ most_entries = let items = c.deref-start-items.ensures.value in omega (arith, c.requires.starts, length-map c.deref-start-items.result.now line_of, ap (λ (starts : List StartItem). length starts) items) in
+    let same : length (paths_of c.args.setup.paths.items) ≡ length c.args.setup.programs.items = length-map c.args.setup.paths.items (λ p. p.items) ∙ c.requires.setup.paths in
+    let few : length (lines_of c.deref-start-items.result.now) ≤ most_entries = let items = c.deref-start-items.ensures.value in omega (arith, c.requires.setup.starts, length-map c.deref-start-items.result.now line_of, ap (λ (starts : List StartItem). length starts) items) in
     let loads = machine_loads rest (lines_of c.deref-start-items.result.now) a c.loop-start.parts (all ∙ first_is) in
     rw parts_is (record {
-      paths = c.requires.paths;
+      paths = c.requires.setup.paths;
       loads = subst (λ n. AreLoaded n c.loop-start.parts.notes) (programs_count (paths_of c.args.setup.paths.items) c.args.setup.programs.items same) (loaded_notes a c.loop-start.parts (length rest.programs) loads);
-      order = λ quiet. rw (c.kind.ensures) (boots_wait_well rest (lines_of c.deref-start-items.result.now) (world_of a c.loop-start.parts) (record { some = c.requires.some; most = c.requires.most; changes = c.requires.changes }) refl few (sym (all ∙ first_is))).0;
+      order = λ quiet. rw (c.kind.ensures) (boots_wait_well rest (lines_of c.deref-start-items.result.now) (world_of a c.loop-start.parts) (record { some = c.requires.setup.some; most = c.requires.setup.most; changes = c.requires.setup.changes }) refl few (sym (all ∙ first_is))).0;
       strayed = whole_reached (has_stray c.loop-start.parts.notes);
     })
 
@@ -97,42 +98,20 @@ returns-clause-world g c =
     (record { kept = c.loop-start.parts; kind = kind_of c.args.chooser.now; paths = paths_of c.args.setup.paths.items; programs = c.args.setup.programs.items; events = 0; mode = c.args.setup.mode; reach = reach_of (has_stray c.loop-start.parts.notes) })
     (boot rest (lines_of c.deref-start-items.result.now)) (all ∙ first_is) refl)
 
-pub returns-clause-alone : goal.returns-clause-alone
-returns-clause-alone g c =
+pub returns-clause-opens : goal.returns-clause-opens
+returns-clause-opens g c =
     let a = about_boot (kind_of c.args.chooser.now) c.args.setup.paths.items c.args.setup.programs.items in
     let rest = rest_of c.args.setup.pages (kind_of c.args.chooser.now) c.args.setup.paths.items c.args.setup.programs.items c.args.setup.tree c.args.setup.stdin.items c.args.setup.keep in
     let first_is = boots_from a c.args.setup.pages c.args.setup.tree c.in_ok-files.files.open_files c.args.setup.keep rest c.in_ok-parts.parts (lines_of c.deref-start-items.result.now) c.in_ok-parts.ensures (ap (λ (files : OpenFiles). record rest { files = files }) c.in_ok-files.ensures) refl in
     let all = left_none c.deref-start-items.result.now c.loop-start.start-index (world_of a c.loop-start.parts) (all_started (world_of a c.in_ok-parts.parts) (lines_of c.deref-start-items.result.now))
     c.loop-start-test.false c.loop-start.invariant.left in
     let parts_is = parts_boot rest (lines_of c.deref-start-items.result.now) a c.loop-start.parts refl (sym (all ∙ first_is)) _ c.args.setup.programs.items c.args.setup.mode c.new-3.ensures in
+    let few : length (lines_of c.deref-start-items.result.now) ≤ most_entries = let items = c.deref-start-items.ensures.value in omega (arith, c.requires.setup.starts, length-map c.deref-start-items.result.now line_of, ap (λ (starts : List StartItem). length starts) items) in
     let kind = c.kind.ensures in
-    rw (parts_is, ← c.deref-start-items.ensures.value, kind)
-    (boots_begin_stays rest (lines_of c.deref-start-items.result.now) (world_of a c.loop-start.parts) (record { some = c.requires.some; most = c.requires.most; changes = c.requires.changes }) (sym (all ∙ first_is)))
-
-pub returns-clause-waits : goal.returns-clause-waits
-returns-clause-waits g c =
-    let a = about_boot (kind_of c.args.chooser.now) c.args.setup.paths.items c.args.setup.programs.items in
-    let rest = rest_of c.args.setup.pages (kind_of c.args.chooser.now) c.args.setup.paths.items c.args.setup.programs.items c.args.setup.tree c.args.setup.stdin.items c.args.setup.keep in
-    let first_is = boots_from a c.args.setup.pages c.args.setup.tree c.in_ok-files.files.open_files c.args.setup.keep rest c.in_ok-parts.parts (lines_of c.deref-start-items.result.now) c.in_ok-parts.ensures (ap (λ (files : OpenFiles). record rest { files = files }) c.in_ok-files.ensures) refl in
-    let all = left_none c.deref-start-items.result.now c.loop-start.start-index (world_of a c.loop-start.parts) (all_started (world_of a c.in_ok-parts.parts) (lines_of c.deref-start-items.result.now))
-    c.loop-start-test.false c.loop-start.invariant.left in
-    let parts_is = parts_boot rest (lines_of c.deref-start-items.result.now) a c.loop-start.parts refl (sym (all ∙ first_is)) _ c.args.setup.programs.items c.args.setup.mode c.new-3.ensures in
-    let few : length (lines_of c.deref-start-items.result.now) ≤ most_entries = let items = c.deref-start-items.ensures.value in omega (arith, c.requires.starts, length-map c.deref-start-items.result.now line_of, ap (λ (starts : List StartItem). length starts) items) in
-    let kind = c.kind.ensures in
-    rw (parts_is, kind)
-    (boots_wait_well rest (lines_of c.deref-start-items.result.now) (world_of a c.loop-start.parts) (record { some = c.requires.some; most = c.requires.most; changes = c.requires.changes }) refl few (sym (all ∙ first_is))).1
-
-pub returns-clause-quiet : goal.returns-clause-quiet
-unfolding world_of
-returns-clause-quiet g c = rw c.new-3.ensures c.loop-start.invariant.quiet
-
-pub returns-clause-memory : goal.returns-clause-memory
-returns-clause-memory g c =
-    let a = about_boot (kind_of c.args.chooser.now) c.args.setup.paths.items c.args.setup.programs.items in
-    let rest = rest_of c.args.setup.pages (kind_of c.args.chooser.now) c.args.setup.paths.items c.args.setup.programs.items c.args.setup.tree c.args.setup.stdin.items c.args.setup.keep in
-    let first_is = boots_from a c.args.setup.pages c.args.setup.tree c.in_ok-files.files.open_files c.args.setup.keep rest c.in_ok-parts.parts (lines_of c.deref-start-items.result.now) c.in_ok-parts.ensures (ap (λ (files : OpenFiles). record rest { files = files }) c.in_ok-files.ensures) refl in
-    let all = left_none c.deref-start-items.result.now c.loop-start.start-index (world_of a c.loop-start.parts) (all_started (world_of a c.in_ok-parts.parts) (lines_of c.deref-start-items.result.now))
-    c.loop-start-test.false c.loop-start.invariant.left in
-    let parts_is = parts_boot rest (lines_of c.deref-start-items.result.now) a c.loop-start.parts refl (sym (all ∙ first_is)) _ c.args.setup.programs.items c.args.setup.mode c.new-3.ensures in
-    let kind = c.kind.ensures in
-    rw (parts_is, kind) (opened (headers_of c.args.setup.programs.items) a c.loop-start.parts c.loop-start.invariant.laid)
+    rw (parts_is, kind) (record {
+      memory = opened (headers_of c.args.setup.programs.items) a c.loop-start.parts c.loop-start.invariant.laid;
+      mode = refl;
+      quiet = noted_state _ ∙ c.loop-start.invariant.quiet;
+      waits = (boots_wait_well rest (lines_of c.deref-start-items.result.now) (world_of a c.loop-start.parts) (record { some = c.requires.setup.some; most = c.requires.setup.most; changes = c.requires.setup.changes }) refl few (sym (all ∙ first_is))).1;
+      stays = rw (← c.deref-start-items.ensures.value) (boots_begin_stays rest (lines_of c.deref-start-items.result.now) (world_of a c.loop-start.parts) (record { some = c.requires.setup.some; most = c.requires.setup.most; changes = c.requires.setup.changes }) (sym (all ∙ first_is)));
+    })

@@ -23,7 +23,7 @@ invariant-loop-quantum g l = record {
   comes : IsHalting l.fn.self → Comes (take l.quantum-index l.quanta) (world l.fn.self) (world l.self);
   memory : l.fn.self.mode ≡ GoOn → ComesIn (take l.quantum-index l.quanta) (one_memory l.fn.self) (one_memory l.self);
   first : l.fn.self.mode ≡ GoOn → has_stray (world l.fn.self).notes ≡ false → LeavesFirst (take l.quantum-index l.quanta) (world l.fn.self) (world l.self) (Ok None);
-  hits : IsHalting l.fn.self → HitsCome (hits (kind_of_point l.watcher.point.now) l.watcher.spans.now) l.fn.hits l.hits (take l.quantum-index l.quanta) (world l.fn.self) (world l.self);
-  hits_in : l.fn.self.mode ≡ GoOn → HitsCome (hits_in_memory (kind_of_point l.watcher.point.now) l.watcher.spans.now) l.fn.hits l.hits (take l.quantum-index l.quanta) (one_memory l.fn.self) (one_memory l.self);
+  hits : IsHalting l.fn.self → HitsCome (hits (kind_of_point l.hooks.watcher.now.point.now) l.hooks.watcher.now.spans.now) l.fn.hits l.hits (take l.quantum-index l.quanta) (world l.fn.self) (world l.self);
+  hits_in : l.fn.self.mode ≡ GoOn → HitsCome (hits_in_memory (kind_of_point l.hooks.watcher.now.point.now) l.hooks.watcher.now.spans.now) l.fn.hits l.hits (take l.quantum-index l.quanta) (one_memory l.fn.self) (one_memory l.self);
   events : l.self.events + sum_by (λ q. q.count) (drop l.quantum-index l.quanta) ≤ l.fn.self.events + sum_by (λ q. q.count) l.quanta;
 }

@@ -1,10 +1,11 @@
 //! What a run is watched for.
 
-use watch_points::{Span, WatchPoint};
+use crate::point::WatchPoint;
+use crate::span::Span;
 
 /// What is watched, and when an access to it hits. Where there are no spans nothing is watched.
 #[derive(Drop)]
-pub(crate) struct Watcher<'a, G> {
-    pub(crate) point: &'a WatchPoint<G>,
-    pub(crate) spans: &'a [Span],
+pub struct Watcher<'a, F> {
+    pub point: &'a WatchPoint<F>,
+    pub spans: &'a [Span],
 }
