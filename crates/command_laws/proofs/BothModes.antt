@@ -4,13 +4,11 @@ use Rattle.byte_words.specs.declared.access.Access.{Access}
 use Rattle.machine_world.specs.Turns.{End, all_ended, stuck, out_of_quanta, stray_at, log_full, turns}
 use Rattle.memory_world.specs.Physical.{turns_in, opening_in}
 use Rattle.go_on_laws.proofs.NeverStrays.{runs_never_stray}
-use Rattle.region_watch.specs.declared.mode.Mode.TheVariants.{Halt, GoOn}
 use Rattle.file_commands.specs.declared.status.Status.TheVariants.{Stray}
-use Rattle.suite_top.specs.declared.telling.Telling.TheVariants.{Report}
 use Rattle.suite_top.specs.Report.{status_of_end}
 use Rattle.file_commands.specs.Outcome.{Request, Outcome, after}
 use Rattle.command_laws.specs.RunLaws.{IsStop}
-use Rattle.command_laws.specs.Beside.{RunsEndEarlyAlike, RunsOnNeverStray}
+use Rattle.command_laws.specs.Beside.{halted, gone_on, RunsEndEarlyAlike, RunsOnNeverStray}
 use Rattle.suite_top.proofs.RunOutcomes.{told_status}
 use Rattle.command_laws.proofs.BothRuns.{both_run}
 
@@ -21,11 +19,11 @@ alike_after request halts goes (inl stops) = inl stops
 alike_after request halts goes (inr same) = inr (ap (after request) same)
 
 pub runs_end_early_alike : RunsEndEarlyAlike
-runs_end_early_alike name log watch =
-    both_run None (Report log watch) (Report log watch) Halt GoOn (λ halts goes. IsStop halts.ending.status ⊎ (goes ≡ halts)) alike_after (λ name. inr refl) (λ tail. inr refl)
+runs_end_early_alike name options =
+    both_run (halted options) (gone_on options) (λ m b. refl) (λ halts goes. IsStop halts.ending.status ⊎ (goes ≡ halts)) alike_after (λ name. inr refl) (λ tail. inr refl)
     (λ quanta watches dumps headers w.
     let walk = turns quanta w in
-    inl (told_status IsStop tt tt tt tt tt (Report log watch) [] walk.world walk.end)) name
+    inl (told_status IsStop tt tt tt tt tt (halted options) [] walk.world walk.end)) name
 
 -- ---- and the other doesn't end with Stray
 
@@ -38,6 +36,6 @@ no_stray (Some log_full) never = λ h. cc
 no_stray None never = λ h. cc
 
 pub runs_on_never_stray : RunsOnNeverStray
-runs_on_never_stray name log watch =
-    both_run None (Report log watch) (Report log watch) Halt GoOn (λ halts goes. goes.ending.status ≢ Stray) (λ request halts goes other. other) (λ name h. cc) (λ tail h. cc)
+runs_on_never_stray name options =
+    both_run (halted options) (gone_on options) (λ m b. refl) (λ halts goes. goes.ending.status ≢ Stray) (λ request halts goes other. other) (λ name h. cc) (λ tail h. cc)
     (λ quanta watches dumps headers w. no_stray (turns_in quanta (opening_in headers w)).end (runs_never_stray quanta (opening_in headers w))) name

@@ -1,12 +1,10 @@
 -- What a call of `demo` does.
 use Rattle.std.proofs.Common.{◌≡◌, ℕ, List, [], Option, Some, None, ◌⊎◌, inl, inr, refl, sym, ap, subst, ◌∙◌, arith}
-use Rattle.page_runs.specs.declared.place.Kind.TheVariants.{First}
 use Rattle.machine_world.specs.World.{World}
 use Rattle.machine_world.specs.Turns.{End, all_ended, stuck, out_of_quanta, stray_at, log_full}
-use Rattle.region_watch.specs.declared.mode.Mode.TheVariants.{Halt}
 use Rattle.elf_maker.specs.Demo.{demo_file}
 use Rattle.file_commands.specs.declared.status.Status.TheVariants.{Done}
-use Rattle.suite_top.specs.declared.telling.Telling.TheVariants.{Demo}
+use Rattle.suite_top.specs.Telling.{Demo}
 use Rattle.file_commands.specs.Ending.{Ending}
 use Rattle.suite_top.specs.Report.{own_dumps}
 use Rattle.suite_top.specs.Telling.{demonstrated_ending}
@@ -40,11 +38,11 @@ demos_ask_nothing c n (ending, performs, delivers) is =
 
 pub demos_run_where_they_open : DemosRunWhereTheyOpen
 unfolding demo_run
-demos_run_where_they_open n o = ap (λ (x : Outcome). x.ending) (runs_where_booted None (Demo n) Halt First (demo_manifest n) (each_of demo_file n) o)
+demos_run_where_they_open n o = ap (λ (x : Outcome). x.ending) (runs_where_booted (Demo n) (demo_manifest n) (each_of demo_file n) o)
 
 pub demos_open_where_they_stop : DemosOpenWhereTheyStop
 unfolding demo_run
-demos_open_where_they_stop n stop = booted_where_it_stops None (Demo n) Halt First (demo_manifest n) (each_of demo_file n) stop
+demos_open_where_they_stop n stop = booted_where_it_stops (Demo n) (demo_manifest n) (each_of demo_file n) stop
 
 -- it has no load that could fail
 pub demos_stop_or_are_refused : DemosStopOrAreRefused
@@ -55,7 +53,7 @@ demos_stop_or_are_refused n =
     elim either [
       | inl stop ↦ inl stop
       | inr early ↦ elim early.1 [
-        | inl read ↦ absurd (files_are_told (Demo n) Halt First (demo_manifest n) (each_of demo_file n) read)
+        | inl read ↦ absurd (files_are_told (Demo n) (demo_manifest n) (each_of demo_file n) read)
         | inr refused ↦ inr (early.0, refused)
       ]
     ]

@@ -1,13 +1,11 @@
 -- The headline, by the laws of a call's status and of a run's opening world.
-use Rattle.std.proofs.Common.{◌≡◌, Bool, List, ℕ, Option, Some, sym, ap, subst, ◌∙◌}
-use Rattle.page_runs.specs.declared.place.Kind.{Kind}
-use Rattle.region_watch.specs.declared.mode.Mode.{Mode}
+use Rattle.std.proofs.Common.{◌≡◌, Option, sym, ap, subst, ◌∙◌}
 use Rattle.file_commands.specs.declared.status.Status.{Status}
 use Rattle.file_commands.specs.declared.status.Status.TheVariants.{Done, Usage, HostRead, Refused, Stray, OutOfQuanta, LogFull, SinkWrite, Memory, HostWrite, Stuck, Refuted}
 use Rattle.file_commands.specs.Arguments.{Invocation}
 use Rattle.file_commands.specs.Delivery.{TookAll}
 use Rattle.file_commands.specs.Outcome.{Outcome}
-use Rattle.suite_top.specs.declared.telling.Telling.TheVariants.{Report}
+use Rattle.suite_top.specs.Telling.{Report}
 use Rattle.suite_top.specs.Call.{Call, outcome_of}
 use Rattle.suite_top.specs.Result.{command_outcome}
 use Rattle.suite_top.specs.Run.{run_outcome}
@@ -34,12 +32,12 @@ stops_answer HostWrite stop = absurd stop
 stops_answer Refuted stop = absurd stop
 
 pub runs_are_runs_alone : RunsAreRunsAlone
-runs_are_runs_alone c manifest log mode kind kept watch is stop =
+runs_are_runs_alone c manifest options is stop =
     let whole = answers_are_whole c is.meets (stops_answer c.status stop) in
-    let same : outcome_of c ≡ run_outcome manifest kept (Report log watch) mode kind c.inputs = ap (λ (o : Option Invocation). command_outcome o c.inputs) is.command in
+    let same : outcome_of c ≡ run_outcome manifest (Report options) c.inputs = ap (λ (o : Option Invocation). command_outcome o c.inputs) is.command in
     let stops = subst IsStop (whole.status ∙ ap (λ (x : Outcome). x.ending.status) same) stop in
-    let opens = opens_where_it_stops c.inputs manifest kept (Report log watch) mode kind stops in
-    let opened : outcome_of c ≡ opened_outcome kept (Report log watch) mode opens = same ∙ runs_where_it_opens c.inputs manifest kept (Report log watch) mode kind opens in
+    let opens = opens_where_it_stops c.inputs manifest (Report options) stops in
+    let opened : outcome_of c ≡ opened_outcome (Report options) opens = same ∙ runs_where_it_opens c.inputs manifest (Report options) opens in
     record {
       opens = opens;
       performed = whole.performed;

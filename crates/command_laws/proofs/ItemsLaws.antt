@@ -25,7 +25,7 @@ use Rattle.file_commands.specs.Outcome.{Request, load, store, Outcome}
 use Rattle.file_commands.specs.Arguments.{Invocation}
 use Rattle.file_commands.specs.Items.{has_file}
 use Rattle.file_commands.specs.HostCourse.{AreLoads, after_answer, after_answers}
-use Rattle.suite_top.specs.declared.telling.Telling.TheVariants.{Report}
+use Rattle.suite_top.specs.Telling.{Report}
 use Rattle.suite_top.specs.Kept.{text_or_none, kept_text}
 use Rattle.suite_top.specs.Result.{command_outcome}
 use Rattle.suite_top.specs.Run.{start_line, opening, run_outcome}
@@ -107,16 +107,17 @@ all_loads [] = tt
 all_loads (item ∷ items) = all_loads items
 
 pub items_are_stored : ItemsAreStored
-items_are_stored c t t_after manifest log kind kept watch is stop =
+items_are_stored c t t_after manifest options kept is stop =
+    let telling = Report (record options { mode = Halt; kept = Some kept }) in
     let told = shows c t t_after is.files (outcome_of c) refl (stops_answer c.status stop) in
-    let same : outcome_of c ≡ run_outcome manifest (Some kept) (Report log watch) Halt kind c.inputs = ap (λ (o : Option Invocation). command_outcome o c.inputs) is.command in
+    let same : outcome_of c ≡ run_outcome manifest telling c.inputs = ap (λ (o : Option Invocation). command_outcome o c.inputs) is.command in
     let stops = subst IsStop (told.status ∙ ap (λ (x : Outcome). x.ending.status) same) stop in
-    let opens : Opens c.inputs manifest kept.number kind = opens_where_it_stops c.inputs manifest (Some kept) (Report log watch) Halt kind stops in
-    let opened : outcome_of c ≡ opened_outcome (Some kept) (Report log watch) Halt opens = same ∙ runs_where_it_opens c.inputs manifest (Some kept) (Report log watch) Halt kind opens in
+    let opens : Opens c.inputs manifest kept.number options.kind = opens_where_it_stops c.inputs manifest telling stops in
+    let opened : outcome_of c ≡ opened_outcome telling opens = same ∙ runs_where_it_opens c.inputs manifest telling opens in
     let requests = load manifest ∷ map (λ (i : Item). load i.name) (filter (λ (i : Item). has_file i.kind) opens.manifest.items) in (
       opens,
       ap (λ (u : Told). u.files) told.told
           ∙ ap (λ (x : Outcome). (after_answers t x.requests).files) opened
           ∙ stored_last requests kept.file (kept_text (halting opens).world) t (all_loads (filter (λ (i : Item). has_file i.kind) opens.manifest.items))
-          ∙ ap (insert t.files kept.file) (texts_are_of_stays c.inputs manifest kept.number kind opens),
+          ∙ ap (insert t.files kept.file) (texts_are_of_stays c.inputs manifest kept.number options.kind opens),
     )

@@ -14,10 +14,9 @@ use Rattle.machine_world.specs.Recordings.{nothing_recorded, launched}
 use Rattle.region_watch.specs.declared.mode.Mode.TheVariants.{Halt}
 use Rattle.flat_machine.specs.Runs.{repeated}
 use Rattle.run_setup.specs.Brought.{Brought, FaultAt, nothing_brought, all_brought}
-use Rattle.file_commands.specs.Arguments.{KeptItems}
+use Rattle.file_commands.specs.Arguments.{KeptItems, RunOptions}
 use Rattle.file_commands.specs.Outcome.{Request, Outcome, after}
-use Rattle.watch_points.specs.declared.point.PointKind.{PointKind}
-use Rattle.suite_top.specs.declared.telling.Telling.TheVariants.{Report}
+use Rattle.suite_top.specs.Telling.{Telling, Report}
 use Rattle.suite_top.specs.Run.{start_line, opening, boot_fault, booted_outcome, brought_outcome, files_outcome}
 use Rattle.suite_top.proofs.RunOutcomes.{told_status}
 use Rattle.machine_world.specs.Turns.{turns}
@@ -79,30 +78,38 @@ boots_alike keep kind m b = all_alike (map start_line m.starts) keep (nothing_re
 
 -- ---- of a run
 
-module _ (kept : KeptItems) (log : Bool) (watch : Option PointKind) where
+module _ (kept : KeptItems) (options : RunOptions) where
+  -- without items, and with them
+  abbrev without : Telling
+  without = Report (record options { mode = Halt; kept = None })
+
+  abbrev keeping : Telling
+  keeping = Report (record options { mode = Halt; kept = Some kept })
+
   booted_alike : (m : Manifest) (headers : List (List ℕ)) (one other : Result World BootFault) → BootAlike one other
-      → EndsAlike (booted_outcome None (Report log watch) Halt m headers one) (booted_outcome (Some kept) (Report log watch) Halt m headers other)
+      → EndsAlike (booted_outcome without m headers one) (booted_outcome keeping m headers other)
   booted_alike m headers (Ok w) (Ok v) alike =
       let walk = turns (repeated m.repeat m.quanta) w in
       let walk_other = turns (repeated m.repeat m.quanta) v in
-      inl (told_status IsStop tt tt tt tt tt (Report log watch) [] walk.world walk.end, told_status IsStop tt tt tt tt tt (Report log watch) [] walk_other.world walk_other.end)
-  booted_alike m headers (Err fault) (Err other) is = inr (ap (λ (f : BootFault). booted_outcome None (Report log watch) Halt m headers (Err f)) is)
+      inl (told_status IsStop tt tt tt tt tt without [] walk.world walk.end, told_status IsStop tt tt tt tt tt keeping [] walk_other.world walk_other.end)
+  booted_alike m headers (Err fault) (Err other) is = inr (ap (λ (f : BootFault). booted_outcome without m headers (Err f)) is)
   booted_alike m headers (Ok w) (Err other) alike = absurd alike
   booted_alike m headers (Err fault) (Ok v) alike = absurd alike
 
-  brought_alike : (kind : Kind) (m : Manifest) (r : Result Brought FaultAt) → EndsAlike (brought_outcome None (Report log watch) Halt kind m r) (brought_outcome (Some kept) (Report log watch) Halt kind m r)
-  brought_alike kind m (Err at) = inr refl
-  brought_alike kind m (Ok b) =
-      booted_alike m b.headers (boot (opening 0 kind m b) (map start_line m.starts)) (boot (opening kept.number kind m b) (map start_line m.starts)) (boots_alike kept.number kind m b)
+  brought_alike : (m : Manifest) (r : Result Brought FaultAt) → EndsAlike (brought_outcome without m r) (brought_outcome keeping m r)
+  brought_alike m (Err at) = inr refl
+  brought_alike m (Ok b) =
+      booted_alike m b.headers (boot (opening 0 options.kind m b) (map start_line m.starts)) (boot (opening kept.number options.kind m b) (map start_line m.starts))
+      (boots_alike kept.number options.kind m b)
 
-  files_alike : (kind : Kind) (m : Manifest) (files : List (List ℕ)) → EndsAlike (files_outcome None (Report log watch) Halt kind m files) (files_outcome (Some kept) (Report log watch) Halt kind m files)
+  files_alike : (m : Manifest) (files : List (List ℕ)) → EndsAlike (files_outcome without m files) (files_outcome keeping m files)
   unfolding files_outcome
-  files_alike kind m files = brought_alike kind m (all_brought m.items files nothing_brought)
+  files_alike m files = brought_alike m (all_brought m.items files nothing_brought)
 
 alike_after : (request : Request) (one other : Outcome) → EndsAlike one other → EndsAlike (after request one) (after request other)
 alike_after request one other (inl both) = inl both
 alike_after request one other (inr same) = inr (ap (after request) same)
 
 pub keeping_ends_early_alike : KeepingEndsEarlyAlike
-keeping_ends_early_alike name log kind kept watch inputs =
-    both_loaded EndsAlike alike_after (λ name. inr refl) (λ tail. inr refl) None (Some kept) (Report log watch) (Report log watch) Halt Halt (files_alike kept log watch) name kind inputs
+keeping_ends_early_alike name options kept inputs =
+    both_loaded EndsAlike alike_after (λ name. inr refl) (λ tail. inr refl) (without kept options) (keeping kept options) (files_alike kept options) name inputs

@@ -3,6 +3,7 @@ use Rattle.std.proofs.Common.{◌≡◌, ℕ, zero, suc, false, List, [], ◌∷
 use Rattle.std.specs.Prelude.{codes}
 use Rattle.std.specs.Fmt.{digits}
 use Rattle.page_runs.specs.declared.place.Kind.TheVariants.{First}
+use Rattle.region_watch.specs.declared.mode.Mode.{Mode}
 use Rattle.region_watch.specs.declared.mode.Mode.TheVariants.{Halt, GoOn}
 use Rattle.manifest_text.specs.declared.fault.ManifestFault.TheVariants.{WordCount}
 use Rattle.manifest_text.specs.Pieces.{pieces, words}
@@ -19,7 +20,8 @@ use Rattle.file_commands.specs.Outcome.{load, failure_ending, Inputs}
 use Rattle.mem_files.specs.Paths.{names, is_too_long, walked, place_of}
 use Rattle.run_setup.specs.Brought.{all_brought}
 use Rattle.file_commands.specs.Items.{with_items}
-use Rattle.suite_top.specs.declared.telling.Telling.TheVariants.{Report}
+use Rattle.file_commands.specs.Arguments.{RunOptions}
+use Rattle.suite_top.specs.Telling.{Report}
 use Rattle.suite_top.specs.Run.{files_outcome, run_outcome}
 
 -- the tails of refused lines
@@ -39,12 +41,16 @@ manifest_is_told : manifest_tail 7 WordCount ≡ codes "manifest line 7 3 WordCo
 unfolding digits
 manifest_is_told = refl
 
+-- no option but what becomes of the run at its first stray access
+abbrev plain : Mode → RunOptions
+plain mode = record { log = false; mode = mode; kind = First; kept = None; watch = None }
+
 -- a manifest, and no other file
 alone : List ℕ → Inputs
 alone text zero name = Some text
 alone text (suc i) name = None
 
-no_program : run_outcome (codes "m") None (Report false None) Halt First (alone (codes "start /a\nquanta 0:1\n")) ≡ record { requests = load (codes "m") ∷ []; ending = refused_ending (codes "line 1 start") }
+no_program : run_outcome (codes "m") (Report (plain Halt)) (alone (codes "start /a\nquanta 0:1\n")) ≡ record { requests = load (codes "m") ∷ []; ending = refused_ending (codes "line 1 start") }
 unfolding run_outcome manifest_of lines_of pieces words first_fault line_said words_said keyword_of keyword_said start_said quanta_said is_path is_name is_quantum quantum_value is_number_in decimal_value draft_of late_fault all_said with_items files_outcome all_brought names is_too_long walked place_of boot all_started started digits alone
 no_program = refl
 
@@ -54,7 +60,7 @@ first_alone text zero name = Some text
 first_alone text (suc zero) name = Some []
 first_alone text (suc (suc i)) name = None
 
-loads_come_first : run_outcome (codes "m") None (Report false None) GoOn First (first_alone (codes "flat /a a\nflat /b b\nstart /a\nquanta 0:1\n"))
+loads_come_first : run_outcome (codes "m") (Report (plain GoOn)) (first_alone (codes "flat /a a\nflat /b b\nstart /a\nquanta 0:1\n"))
     ≡ record { requests = load (codes "m") ∷ load (codes "a") ∷ load (codes "b") ∷ []; ending = failure_ending (load (codes "b")) }
 unfolding run_outcome manifest_of lines_of pieces words first_fault line_said words_said keyword_of keyword_said flat_said start_said quanta_said is_path is_name is_quantum quantum_value is_number_in decimal_value draft_of late_fault all_said with_items first_alone
 loads_come_first = refl

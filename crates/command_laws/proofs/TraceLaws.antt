@@ -4,7 +4,7 @@ use Rattle.machine_world.specs.Turns.{turns}
 use Rattle.region_watch.specs.declared.mode.Mode.TheVariants.{Halt}
 use Rattle.file_commands.specs.Arguments.{least_pid, most_pid}
 use Rattle.file_commands.specs.Outcome.{Request, Outcome, after}
-use Rattle.suite_top.specs.declared.telling.Telling.TheVariants.{Report, Trace}
+use Rattle.suite_top.specs.Telling.{Report, Trace}
 use Rattle.suite_top.specs.Report.{trace_report}
 use Rattle.command_laws.specs.RunLaws.{IsStop}
 use Rattle.command_laws.specs.TraceLaws.{PidsAreSpelled, IsAsRun, TracesAreRuns, TracesTellNotes}
@@ -28,13 +28,14 @@ alike_after request traced ran is = record {
 }
 
 pub traces_are_runs : TracesAreRuns
-traces_are_runs manifest pid counted log kind watch inputs =
-    both_run None (Trace pid counted) (Report log watch) Halt Halt IsAsRun alike_after (λ name. same _) (λ tail. same _)
+traces_are_runs manifest options ran inputs =
+    let run = Report (record ran { mode = Halt; kind = options.kind; kept = None }) in
+    both_run (Trace options) run (λ m b. refl) IsAsRun alike_after (λ name. same _) (λ tail. same _)
     (λ quanta watches dumps headers w.
     let walk = turns quanta w in
-    record { requests = refl; status = refl; out = refl; early = inl (told_status IsStop tt tt tt tt tt (Report log watch) [] walk.world walk.end) })
-    manifest kind inputs
+    record { requests = refl; status = refl; out = refl; early = inl (told_status IsStop tt tt tt tt tt run [] walk.world walk.end) })
+    manifest inputs
 
 pub traces_tell_notes : TracesTellNotes
 unfolding trace_report
-traces_tell_notes t manifest pid counted kind o = ap (λ (outcome : Outcome). outcome.ending.report) (runs_where_it_opens t manifest None (Trace pid counted) Halt kind o)
+traces_tell_notes t manifest options o = ap (λ (outcome : Outcome). outcome.ending.report) (runs_where_it_opens t manifest (Trace options) o)

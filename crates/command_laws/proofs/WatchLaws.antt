@@ -10,10 +10,9 @@ use Rattle.quantum_sched.specs.declared.Quantum.{Quantum}
 use Rattle.manifest_text.specs.declared.manifest.Dump.{Dump}
 use Rattle.manifest_text.specs.declared.manifest.WatchLine.{WatchLine}
 use Rattle.watch_points.specs.declared.point.PointKind.{PointKind}
-use Rattle.page_runs.specs.declared.place.Kind.{Kind}
-use Rattle.file_commands.specs.Arguments.{KeptItems}
+use Rattle.file_commands.specs.Arguments.{RunOptions}
 use Rattle.file_commands.specs.Outcome.{Outcome, Inputs}
-use Rattle.suite_top.specs.declared.telling.Telling.TheVariants.{Report}
+use Rattle.suite_top.specs.Telling.{Telling, Report}
 use Rattle.suite_top.specs.Report.{own_dumps, memory_dumps, notes_text, report_text, stop_word, stop_line}
 use Rattle.suite_top.specs.Kept.{keep_of}
 use Rattle.suite_top.specs.Run.{mode_outcome, run_outcome}
@@ -26,21 +25,24 @@ use Rattle.command_laws.proofs.BothRuns.{both_run}
 use Rattle.command_laws.proofs.RunLaws.{runs_where_it_opens}
 use Rattle.command_laws.proofs.TraceLaws.{same, alike_after}
 
+abbrev watching : RunOptions → Option PointKind → Telling
+watching options watch = Report (record options { watch = watch })
+
 -- ---- the same but for the report
 
-module _ (kept : Option KeptItems) (log : Bool) (point : PointKind) where
+module _ (options : RunOptions) (point : PointKind) where
   ends_alike : (mode : Mode) (quanta : List Quantum) (watches : List WatchLine) (dumps : List Dump) (headers : List (List ℕ)) (w : World)
-      → IsAsRun (mode_outcome kept (Report log (Some point)) mode quanta watches dumps headers w) (mode_outcome kept (Report log None) mode quanta watches dumps headers w)
+      → IsAsRun (mode_outcome (watching options (Some point)) mode quanta watches dumps headers w) (mode_outcome (watching options None) mode quanta watches dumps headers w)
   ends_alike Halt quanta watches dumps headers w =
       let walk = turns quanta w in
-      record { requests = refl; status = refl; out = refl; early = inl (told_status IsStop tt tt tt tt tt (Report log None) [] walk.world walk.end) }
+      record { requests = refl; status = refl; out = refl; early = inl (told_status IsStop tt tt tt tt tt (watching options None) [] walk.world walk.end) }
   ends_alike GoOn quanta watches dumps headers w =
       let walk = turns_in quanta (opening_in headers w) in
-      record { requests = refl; status = refl; out = refl; early = inl (told_status IsStop tt tt tt tt tt (Report log None) [] walk.now.world walk.end) }
+      record { requests = refl; status = refl; out = refl; early = inl (told_status IsStop tt tt tt tt tt (watching options None) [] walk.now.world walk.end) }
 
 pub watches_are_runs : WatchesAreRuns
-watches_are_runs manifest log mode kind kept point inputs =
-    both_run kept (Report log (Some point)) (Report log None) mode mode IsAsRun alike_after (λ name. same _) (λ tail. same _) (ends_alike kept log point mode) manifest kind inputs
+watches_are_runs manifest options point inputs =
+    both_run (watching options (Some point)) (watching options None) (λ m b. refl) IsAsRun alike_after (λ name. same _) (λ tail. same _) (ends_alike options point options.mode) manifest inputs
 
 -- ---- the report
 
@@ -62,14 +64,17 @@ has_more log lines dumped w end =
 more_is : (start lines one other without_it with_it : List ℕ) → one ≡ without_it → other ≡ with_it → HasMore start lines without_it with_it → HasMore start lines one other
 more_is start lines one other without_it with_it is has more = record { rest = more.rest; without = is ∙ more.without; has = has ∙ more.has }
 
-module _ (log : Bool) (point : PointKind) {inputs : Inputs} {name : List ℕ} {kind : Kind} (kept : Option KeptItems) (o : Opens inputs name (keep_of kept) kind) where
-  tells_more : (mode : Mode) → HasMore (notes_text log (world_behind mode o)) (hit_lines mode point o) (opened_outcome kept (Report log None) mode o).ending.report (opened_outcome kept (Report log (Some point)) mode o).ending.report
-  tells_more Halt = let walk = halting o in has_more log (hit_lines Halt point o) (own_dumps walk.world o.manifest.dumps) walk.world walk.end
-  tells_more GoOn = let walk = going_on o in has_more log (hit_lines GoOn point o) (memory_dumps walk.now o.manifest.dumps) walk.now.world walk.end
+module _ (options : RunOptions) (point : PointKind) {inputs : Inputs} {name : List ℕ} (o : Opens inputs name (keep_of options.kept) options.kind) where
+  abbrev opened : Mode → Option PointKind → Outcome
+  opened mode watch = opened_outcome (watching (record options { mode = mode }) watch) o
 
-  report_is : (watch : Option PointKind) (mode : Mode) → (run_outcome name kept (Report log watch) mode kind inputs).ending.report ≡ (opened_outcome kept (Report log watch) mode o).ending.report
-  report_is watch mode = ap (λ (outcome : Outcome). outcome.ending.report) (runs_where_it_opens inputs name kept (Report log watch) mode kind o)
+  tells_more : (mode : Mode) → HasMore (notes_text options.log (world_behind mode o)) (hit_lines mode point o) (opened mode None).ending.report (opened mode (Some point)).ending.report
+  tells_more Halt = let walk = halting o in has_more options.log (hit_lines Halt point o) (own_dumps walk.world o.manifest.dumps) walk.world walk.end
+  tells_more GoOn = let walk = going_on o in has_more options.log (hit_lines GoOn point o) (memory_dumps walk.now o.manifest.dumps) walk.now.world walk.end
+
+  report_is : (watch : Option PointKind) → (run_outcome name (watching options watch) inputs).ending.report ≡ (opened options.mode watch).ending.report
+  report_is watch = ap (λ (outcome : Outcome). outcome.ending.report) (runs_where_it_opens inputs name (watching options watch) o)
 
 pub watches_tell_hits : WatchesTellHits
-watches_tell_hits inputs manifest log mode kind kept point o =
-    more_is _ _ _ _ _ _ (report_is log point kept o None mode) (report_is log point kept o (Some point) mode) (tells_more log point kept o mode)
+watches_tell_hits inputs manifest options point o =
+    more_is _ _ _ _ _ _ (report_is options point o None) (report_is options point o (Some point)) (tells_more options point o options.mode)

@@ -1,5 +1,5 @@
 -- A run with `--go-on` beside the same run without it.
-use Rattle.std.specs.Prelude.{◌≡◌, ◌≢◌, ◌⊎◌, ℕ, Bool, List, ◌++◌, Option, Some, None}
+use Rattle.std.specs.Prelude.{◌≡◌, ◌≢◌, ◌⊎◌, ℕ, List, ◌++◌, Some, None}
 use Rattle.byte_words.specs.declared.access.Access.{Access}
 use Rattle.page_runs.specs.declared.place.Kind.{Kind}
 use Rattle.quantum_sched.specs.declared.Quantum.{Quantum}
@@ -12,12 +12,12 @@ use Rattle.memory_world.specs.Physical.{Physical, WalkIn, turns_in, opening_in}
 use Rattle.go_on_laws.specs.Laws.{GoesPast}
 use Rattle.refusals_in_memory.specs.Regular.{IsRegularIn}
 use Rattle.region_watch.specs.declared.mode.Mode.TheVariants.{Halt, GoOn}
-use Rattle.watch_points.specs.declared.point.PointKind.{PointKind}
 use Rattle.flat_machine.specs.Runs.{repeated}
 use Rattle.flat_machine.specs.OwnBytes.{own_bytes, memory_bytes}
 use Rattle.file_commands.specs.declared.status.Status.TheVariants.{Stray}
 use Rattle.file_commands.specs.Ending.{Ending}
-use Rattle.suite_top.specs.declared.telling.Telling.TheVariants.{Report}
+use Rattle.file_commands.specs.Arguments.{RunOptions}
+use Rattle.suite_top.specs.Telling.{Telling, Report}
 use Rattle.suite_top.specs.Report.{own_dumps, memory_dumps, notes_text}
 use Rattle.file_commands.specs.Outcome.{Inputs}
 use Rattle.suite_top.specs.Run.{world_hits, memory_hits, run_outcome}
@@ -62,19 +62,26 @@ MemoryIsRegular = (inputs : Inputs) (name : List ℕ) (keep : ℕ) (kind : Kind)
 
 -- ---- the status and the texts
 
-abbrev pub halting_ending : {inputs : Inputs} {name : List ℕ} {kind : Kind} → (log : Bool) → (watch : Option PointKind) → Opens inputs name 0 kind → Ending
-halting_ending log watch o = (opened_outcome None (Report log watch) Halt o).ending
+-- these options without `--go-on`, and with it: a run keeps no items here
+abbrev pub halted : RunOptions → Telling
+halted options = Report (record options { mode = Halt; kept = None })
 
-abbrev pub going_on_ending : {inputs : Inputs} {name : List ℕ} {kind : Kind} → (log : Bool) → (watch : Option PointKind) → Opens inputs name 0 kind → Ending
-going_on_ending log watch o = (opened_outcome None (Report log watch) GoOn o).ending
+abbrev pub gone_on : RunOptions → Telling
+gone_on options = Report (record options { mode = GoOn; kept = None })
+
+abbrev pub halting_ending : {inputs : Inputs} {name : List ℕ} → (options : RunOptions) → Opens inputs name 0 options.kind → Ending
+halting_ending options o = (opened_outcome (halted options) o).ending
+
+abbrev pub going_on_ending : {inputs : Inputs} {name : List ℕ} → (options : RunOptions) → Opens inputs name 0 options.kind → Ending
+going_on_ending options o = (opened_outcome (gone_on options) o).ending
 
 -- what is told of the hits without it, and with it: nothing, where none are asked for
-abbrev pub halting_hits : {inputs : Inputs} {name : List ℕ} {keep : ℕ} {kind : Kind} → (log : Bool) → (watch : Option PointKind) → Opens inputs name keep kind → List ℕ
-halting_hits log watch o = world_hits (Report log watch) (repeated o.manifest.repeat o.manifest.quanta) o.manifest.watches o.booted.world
+abbrev pub halting_hits : {inputs : Inputs} {name : List ℕ} {keep : ℕ} {kind : Kind} → RunOptions → Opens inputs name keep kind → List ℕ
+halting_hits options o = world_hits (Report options) (repeated o.manifest.repeat o.manifest.quanta) o.manifest.watches o.booted.world
 
-abbrev pub going_on_hits : {inputs : Inputs} {name : List ℕ} {keep : ℕ} {kind : Kind} → (log : Bool) → (watch : Option PointKind) → Opens inputs name keep kind → List ℕ
-going_on_hits log watch o =
-    memory_hits (Report log watch) (repeated o.manifest.repeat o.manifest.quanta) o.manifest.watches (opening_in o.booted.brought.headers o.booted.world)
+abbrev pub going_on_hits : {inputs : Inputs} {name : List ℕ} {keep : ℕ} {kind : Kind} → RunOptions → Opens inputs name keep kind → List ℕ
+going_on_hits options o =
+    memory_hits (Report options) (repeated o.manifest.repeat o.manifest.quanta) o.manifest.watches (opening_in o.booted.brought.headers o.booted.world)
 
 -- a dump of a process that lives, of bytes that lie in memory and aren't all own
 pub record ShowsMore (private : World) (one : Physical) (d : Dump) : Type 0 where
@@ -97,10 +104,10 @@ pub record ReportsAlike (private : World) (one : Physical) (hits : List ℕ) (du
   pub shown : (d : Dump) → DumpsAlike private one d
 
 -- where nothing strays the status and the console are the same, and the reports, with their hits, but for such dumps
-pub record TellsAlike {inputs : Inputs} {name : List ℕ} {kind : Kind} (log : Bool) (watch : Option PointKind) (o : Opens inputs name 0 kind) : Type 0 where
-  pub status : (going_on_ending log watch o).status ≡ (halting_ending log watch o).status
-  pub out : (going_on_ending log watch o).out ≡ (halting_ending log watch o).out
-  pub report : ReportsAlike (halting o).world (going_on o).now (halting_hits log watch o) o.manifest.dumps (halting_ending log watch o).report (going_on_ending log watch o).report
+pub record TellsAlike {inputs : Inputs} {name : List ℕ} (options : RunOptions) (o : Opens inputs name 0 options.kind) : Type 0 where
+  pub status : (going_on_ending options o).status ≡ (halting_ending options o).status
+  pub out : (going_on_ending options o).out ≡ (halting_ending options o).out
+  pub report : ReportsAlike (halting o).world (going_on o).now (halting_hits options o) o.manifest.dumps (halting_ending options o).report (going_on_ending options o).report
 
 -- a text has more behind its start
 abbrev pub Begins : (start text : List ℕ) → Type 0
@@ -108,24 +115,23 @@ Begins start text = (more : List ℕ) × (text ≡ start ++ more)
 
 -- where they end with a stray access, the console goes on behind what it has there, and both reports begin with the notes up to that
 -- access, its own among them
-pub record TellsPast {inputs : Inputs} {name : List ℕ} {kind : Kind} (log : Bool) (watch : Option PointKind) (o : Opens inputs name 0 kind) : Type 0 where
-  pub out : Begins (halting_ending log watch o).out (going_on_ending log watch o).out
-  pub halts : Begins (notes_text log (halting o).world) (halting_ending log watch o).report
-  pub goes_on : Begins (notes_text log (halting o).world) (going_on_ending log watch o).report
+pub record TellsPast {inputs : Inputs} {name : List ℕ} (options : RunOptions) (o : Opens inputs name 0 options.kind) : Type 0 where
+  pub out : Begins (halting_ending options o).out (going_on_ending options o).out
+  pub halts : Begins (notes_text options.log (halting o).world) (halting_ending options o).report
+  pub goes_on : Begins (notes_text options.log (halting o).world) (going_on_ending options o).report
 
-pub record TellsWell {inputs : Inputs} {name : List ℕ} {kind : Kind} (log : Bool) (watch : Option PointKind) (o : Opens inputs name 0 kind) : Type 0 where
-  pub alike : ((pid : ℕ) (access : Access) → (halting o).end ≢ Some (stray_at pid access)) → TellsAlike log watch o
-  pub past : (pid : ℕ) (access : Access) → (halting o).end ≡ Some (stray_at pid access) → TellsPast log watch o
+pub record TellsWell {inputs : Inputs} {name : List ℕ} (options : RunOptions) (o : Opens inputs name 0 options.kind) : Type 0 where
+  pub alike : ((pid : ℕ) (access : Access) → (halting o).end ≢ Some (stray_at pid access)) → TellsAlike options o
+  pub past : (pid : ℕ) (access : Access) → (halting o).end ≡ Some (stray_at pid access) → TellsPast options o
 
 abbrev pub RunsTellWell : Type 0
-RunsTellWell = (inputs : Inputs) (name : List ℕ) (kind : Kind) (log : Bool) (watch : Option PointKind) (o : Opens inputs name 0 kind) → TellsWell log watch o
+RunsTellWell = (inputs : Inputs) (name : List ℕ) (options : RunOptions) (o : Opens inputs name 0 options.kind) → TellsWell options o
 
 -- a run that doesn't reach its machine is the same with it and without it
 abbrev pub RunsEndEarlyAlike : Type 0
-RunsEndEarlyAlike = (name : List ℕ) (log : Bool) (watch : Option PointKind) (kind : Kind) (inputs : Inputs)
-    → IsStop (run_outcome name None (Report log watch) Halt kind inputs).ending.status
-    ⊎ (run_outcome name None (Report log watch) GoOn kind inputs ≡ run_outcome name None (Report log watch) Halt kind inputs)
+RunsEndEarlyAlike = (name : List ℕ) (options : RunOptions) (inputs : Inputs)
+    → IsStop (run_outcome name (halted options) inputs).ending.status ⊎ (run_outcome name (gone_on options) inputs ≡ run_outcome name (halted options) inputs)
 
 -- and with it no run ends at a stray access
 abbrev pub RunsOnNeverStray : Type 0
-RunsOnNeverStray = (name : List ℕ) (log : Bool) (watch : Option PointKind) (kind : Kind) (inputs : Inputs) → (run_outcome name None (Report log watch) GoOn kind inputs).ending.status ≢ Stray
+RunsOnNeverStray = (name : List ℕ) (options : RunOptions) (inputs : Inputs) → (run_outcome name (gone_on options) inputs).ending.status ≢ Stray

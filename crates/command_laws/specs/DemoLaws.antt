@@ -5,7 +5,7 @@ use Rattle.machine_world.specs.Turns.{all_ended}
 use Rattle.elf2flt_tool.specs.Fault.{fault}
 use Rattle.elf_maker.specs.Demo.{demo_file}
 use Rattle.file_commands.specs.declared.status.Status.TheVariants.{Done, Refused}
-use Rattle.suite_top.specs.declared.telling.Telling.TheVariants.{Demo}
+use Rattle.suite_top.specs.Telling.{Demo}
 use Rattle.file_commands.specs.Ending.{Ending, done_ending}
 use Rattle.file_commands.specs.Arguments.{demo, least_programs, most_programs, programs_of, command_of}
 use Rattle.suite_top.specs.Telling.{demo_text}

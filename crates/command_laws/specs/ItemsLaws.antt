@@ -1,16 +1,15 @@
 -- What a run with `--items N FILE` does: the items of the stay of load note N become the file FILE.
-use Rattle.std.specs.Prelude.{◌≡◌, ◌⊎◌, ℕ, zero, suc, Bool, List, map, Option, Some, None, option_map, slice_get}
+use Rattle.std.specs.Prelude.{◌≡◌, ◌⊎◌, ℕ, zero, suc, List, map, Option, Some, None, option_map, slice_get}
 use Rattle.std.specs.FinMap.{insert}
 use Rattle.host_io.specs.Host.{Told}
 use Rattle.page_runs.specs.declared.place.Kind.{Kind}
 use Rattle.region_watch.specs.declared.mode.Mode.TheVariants.{Halt}
-use Rattle.watch_points.specs.declared.point.PointKind.{PointKind}
 use Rattle.items_text.specs.Items.{ItemsValue}
 use Rattle.recorded_items.specs.Recorded.{told_item}
 use Rattle.alone_laws.specs.Stays.{Stay}
 use Rattle.file_commands.specs.Outcome.{Outcome, Inputs}
-use Rattle.file_commands.specs.Arguments.{KeptItems, run, command_of}
-use Rattle.suite_top.specs.declared.telling.Telling.TheVariants.{Report}
+use Rattle.file_commands.specs.Arguments.{KeptItems, RunOptions, run, command_of}
+use Rattle.suite_top.specs.Telling.{Report}
 use Rattle.suite_top.specs.Kept.{text_or_none, kept_text}
 use Rattle.suite_top.specs.Run.{run_outcome}
 use Rattle.suite_top.specs.Call.{Call, OverFiles}
@@ -52,17 +51,17 @@ abbrev pub EndsAlike : (without with_it : Outcome) → Type 0
 EndsAlike without with_it = (IsStop without.ending.status × IsStop with_it.ending.status) ⊎ (with_it ≡ without)
 
 abbrev pub KeepingEndsEarlyAlike : Type 0
-KeepingEndsEarlyAlike = (name : List ℕ) (log : Bool) (kind : Kind) (kept : KeptItems) (watch : Option PointKind) (inputs : Inputs)
-    → EndsAlike (run_outcome name None (Report log watch) Halt kind inputs) (run_outcome name (Some kept) (Report log watch) Halt kind inputs)
+KeepingEndsEarlyAlike = (name : List ℕ) (options : RunOptions) (kept : KeptItems) (inputs : Inputs)
+    → EndsAlike (run_outcome name (Report (record options { mode = Halt; kept = None })) inputs) (run_outcome name (Report (record options { mode = Halt; kept = Some kept })) inputs)
 
 -- ---- a call, over a host that tells its files
 
-pub record IsKeeping (c : Call) (t t_after : Told) (manifest : List ℕ) (log : Bool) (kind : Kind) (kept : KeptItems) (watch : Option PointKind) : Type 0 where
+pub record IsKeeping (c : Call) (t t_after : Told) (manifest : List ℕ) (options : RunOptions) (kept : KeptItems) : Type 0 where
   pub files : OverFiles c t t_after
-  pub command : command_of c.arguments ≡ Some (run manifest log Halt kind (Some kept) watch)
+  pub command : command_of c.arguments ≡ Some (run manifest (record options { mode = Halt; kept = Some kept }))
 
 -- where it ends as its machine stopped, FILE holds exactly that text, and no other file changed
 abbrev pub ItemsAreStored : Type 0
-ItemsAreStored = (c : Call) (t t_after : Told) (manifest : List ℕ) (log : Bool) (kind : Kind) (kept : KeptItems) (watch : Option PointKind)
-    → IsKeeping c t t_after manifest log kind kept watch → IsStop c.status
-    → (o : Opens c.inputs manifest kept.number kind) × (t_after.files ≡ insert t.files kept.file (stay_text o))
+ItemsAreStored = (c : Call) (t t_after : Told) (manifest : List ℕ) (options : RunOptions) (kept : KeptItems)
+    → IsKeeping c t t_after manifest options kept → IsStop c.status
+    → (o : Opens c.inputs manifest kept.number options.kind) × (t_after.files ≡ insert t.files kept.file (stay_text o))

@@ -1,19 +1,17 @@
 -- When a run reaches its machine, and what is said of it from there on: over any host, for the files that its loads give.
-use Rattle.std.specs.Prelude.{◌≡◌, ◌⊎◌, ℕ, ◌-◌, ◌≤◌, Bool, true, false, List, [], ◌∷◌, ◌++◌, map, filter, length, Option, Some, Ok}
+use Rattle.std.specs.Prelude.{◌≡◌, ◌⊎◌, ℕ, ◌-◌, ◌≤◌, Bool, true, false, List, [], ◌∷◌, ◌++◌, map, filter, length, Some, Ok}
 use Rattle.page_runs.specs.declared.place.Kind.{Kind}
 use Rattle.manifest_text.specs.Values.{Item, Manifest}
 use Rattle.manifest_text.specs.Manifest.{manifest_of}
-use Rattle.region_watch.specs.declared.mode.Mode.{Mode}
 use Rattle.flat_machine.specs.Runs.{repeated}
 use Rattle.file_commands.specs.declared.status.Status.{Status}
 use Rattle.file_commands.specs.declared.status.Status.TheVariants.{Done, HostRead, Refused, Stray, OutOfQuanta, LogFull, Stuck}
-use Rattle.suite_top.specs.declared.telling.Telling.{Telling}
-use Rattle.file_commands.specs.Arguments.{KeptItems}
 use Rattle.file_commands.specs.Ending.{Ending}
 use Rattle.file_commands.specs.Outcome.{load, Outcome, Inputs}
 use Rattle.file_commands.specs.Load.{behind}
 use Rattle.file_commands.specs.Items.{load_limit, files_limit, has_file}
 use Rattle.file_commands.specs.Manifests.{manifest_limit}
+use Rattle.suite_top.specs.Telling.{Telling, mode_of, placement_of, kept_of}
 use Rattle.suite_top.specs.Kept.{keep_of, kept_requests}
 use Rattle.suite_top.specs.Run.{mode_ending, stopped_world, run_outcome}
 use Rattle.command_laws.specs.Booted.{Booted, DoesAsAlone, EndsAsAlone, WaitsToTheEnd, HasWorldsInOrder, HasRegularWorlds}
@@ -46,14 +44,18 @@ pub record Opens (inputs : Inputs) (name : List ℕ) (keep : ℕ) (kind : Kind) 
   pub there : AreThere (behind inputs) files_limit manifest.items files
   pub booted : Booted keep kind manifest files
 
+-- of a run of which this is asked
+abbrev pub OpensFor : Inputs → (name : List ℕ) → Telling → Type 0
+OpensFor inputs name telling = Opens inputs name (keep_of (kept_of telling)) (placement_of telling)
+
 -- the manifest is asked for, then the file of each line that has one, in order; and the turns from that world, or, of a run that goes on,
 -- those over one memory, give the texts, and the items that are stored, if they are kept
-abbrev pub opened_outcome : {inputs : Inputs} {name : List ℕ} {kind : Kind} (kept : Option KeptItems) → Telling → Mode → Opens inputs name (keep_of kept) kind → Outcome
-opened_outcome {name = name} kept telling mode o =
+abbrev pub opened_outcome : {inputs : Inputs} {name : List ℕ} (telling : Telling) → OpensFor inputs name telling → Outcome
+opened_outcome {name = name} telling o =
     let quanta = repeated o.manifest.repeat o.manifest.quanta in
     record {
-      requests = load name ∷ (map (λ i. load i.name) (filter (λ i. has_file i.kind) o.manifest.items) ++ kept_requests kept (stopped_world mode quanta o.booted.brought.headers o.booted.world));
-      ending = mode_ending telling mode quanta o.manifest.watches o.manifest.dumps o.booted.brought.headers o.booted.world;
+      requests = load name ∷ (map (λ i. load i.name) (filter (λ i. has_file i.kind) o.manifest.items) ++ kept_requests (kept_of telling) (stopped_world (mode_of telling) quanta o.booted.brought.headers o.booted.world));
+      ending = mode_ending telling (mode_of telling) quanta o.manifest.watches o.manifest.dumps o.booted.brought.headers o.booted.world;
     }
 
 -- the statuses of a machine that stopped
@@ -66,13 +68,11 @@ IsStop Stuck = Unit {0}
 IsStop other = ⊥
 
 abbrev pub RunsWhereItOpens : Type 0
-RunsWhereItOpens = (inputs : Inputs) (name : List ℕ) (kept : Option KeptItems) (telling : Telling) (mode : Mode) (kind : Kind) (o : Opens inputs name (keep_of kept) kind)
-    → run_outcome name kept telling mode kind inputs ≡ opened_outcome kept telling mode o
+RunsWhereItOpens = (inputs : Inputs) (name : List ℕ) (telling : Telling) (o : OpensFor inputs name telling) → run_outcome name telling inputs ≡ opened_outcome telling o
 
 -- and in no other case a run ends with one of these
 abbrev pub OpensWhereItStops : Type 0
-OpensWhereItStops = (inputs : Inputs) (name : List ℕ) (kept : Option KeptItems) (telling : Telling) (mode : Mode) (kind : Kind)
-    → IsStop (run_outcome name kept telling mode kind inputs).ending.status → Opens inputs name (keep_of kept) kind
+OpensWhereItStops = (inputs : Inputs) (name : List ℕ) (telling : Telling) → IsStop (run_outcome name telling inputs).ending.status → OpensFor inputs name telling
 
 -- it ends early: a load failed, or something was refused, and nothing goes to `out`
 abbrev pub IsEarly : Ending → Type 0
@@ -80,8 +80,7 @@ IsEarly ending = (ending.out ≡ []) × ((ending.status ≡ HostRead) ⊎ (endin
 
 -- a run reaches its machine or ends early, whatever its files are
 abbrev pub RunsStopOrEndEarly : Type 0
-RunsStopOrEndEarly = (name : List ℕ) (kept : Option KeptItems) (telling : Telling) (mode : Mode) (kind : Kind) (inputs : Inputs)
-    → IsStop (run_outcome name kept telling mode kind inputs).ending.status ⊎ IsEarly (run_outcome name kept telling mode kind inputs).ending
+RunsStopOrEndEarly = (name : List ℕ) (telling : Telling) (inputs : Inputs) → IsStop (run_outcome name telling inputs).ending.status ⊎ IsEarly (run_outcome name telling inputs).ending
 
 -- ---- what is said of each run from its opening world on
 

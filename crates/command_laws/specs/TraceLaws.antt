@@ -1,12 +1,11 @@
 -- What a call of `trace` does: it is the run of its manifest, but for the report.
-use Rattle.std.specs.Prelude.{◌≡◌, ◌↔◌, ◌⊎◌, ℕ, ◌≤◌, Bool, List, ◌++◌, map, reverse, decimal, Option, Some, None}
-use Rattle.page_runs.specs.declared.place.Kind.{Kind}
+use Rattle.std.specs.Prelude.{◌≡◌, ◌↔◌, ◌⊎◌, ℕ, ◌≤◌, List, ◌++◌, map, reverse, decimal, Some, None}
 use Rattle.region_watch.specs.declared.mode.Mode.TheVariants.{Halt}
-use Rattle.watch_points.specs.declared.point.PointKind.{PointKind}
 use Rattle.trace_text.specs.Texts.{trace_texts}
 use Rattle.machine_world.specs.World.{program_path}
 use Rattle.file_commands.specs.Outcome.{Outcome, Inputs}
-use Rattle.file_commands.specs.Arguments.{run, trace, least_pid, most_pid, pid_of}
+use Rattle.file_commands.specs.declared.command.TraceOptions.{TraceOptions}
+use Rattle.file_commands.specs.Arguments.{RunOptions, run, trace, least_pid, most_pid, pid_of}
 use Rattle.suite_top.specs.Report.{own_dumps, stop_word, stop_line}
 use Rattle.suite_top.specs.Result.{command_outcome}
 use Rattle.command_laws.specs.RunLaws.{Opens, IsStop}
@@ -25,14 +24,14 @@ pub record IsAsRun (traced ran : Outcome) : Type 0 where
 
 -- whatever is shown, and whatever the run tells
 abbrev pub TracesAreRuns : Type 0
-TracesAreRuns = (manifest : List ℕ) (pid : Option ℕ) (counted log : Bool) (kind : Kind) (watch : Option PointKind) (inputs : Inputs)
-    → IsAsRun (command_outcome (Some (trace manifest pid counted kind)) inputs) (command_outcome (Some (run manifest log Halt kind None watch)) inputs)
+TracesAreRuns = (manifest : List ℕ) (options : TraceOptions) (ran : RunOptions) (inputs : Inputs)
+    → IsAsRun (command_outcome (Some (trace manifest options)) inputs) (command_outcome (Some (run manifest (record ran { mode = Halt; kind = options.kind; kept = None }))) inputs)
 
 -- where the machine is reached, the report has the texts of a trace, of the notes in the world behind the turns, then the dumps and why the
 -- run stopped
 abbrev pub TracesTellNotes : Type 0
-TracesTellNotes = (inputs : Inputs) (manifest : List ℕ) (pid : Option ℕ) (counted : Bool) (kind : Kind) (o : Opens inputs manifest 0 kind)
-    → (command_outcome (Some (trace manifest pid counted kind)) inputs).ending.report
-    ≡ trace_texts pid counted (map program_path (halting o).world.rest.programs) (reverse (halting o).world.notes)
+TracesTellNotes = (inputs : Inputs) (manifest : List ℕ) (options : TraceOptions) (o : Opens inputs manifest 0 options.kind)
+    → (command_outcome (Some (trace manifest options)) inputs).ending.report
+    ≡ trace_texts options.pid options.counted (map program_path (halting o).world.rest.programs) (reverse (halting o).world.notes)
     ++ own_dumps (halting o).world o.manifest.dumps
     ++ stop_line (stop_word (halting o).end) (halting o).world.events

@@ -1,5 +1,5 @@
 -- What a run with `--watch` does: it is the same run without it, but for the lines of its hits.
-use Rattle.std.specs.Prelude.{◌≡◌, ℕ, Bool, List, ◌++◌, Option, Some, None}
+use Rattle.std.specs.Prelude.{◌≡◌, ℕ, List, ◌++◌, Some, None}
 use Rattle.page_runs.specs.declared.place.Kind.{Kind}
 use Rattle.region_watch.specs.declared.mode.Mode.{Mode}
 use Rattle.region_watch.specs.declared.mode.Mode.TheVariants.{Halt, GoOn}
@@ -9,7 +9,7 @@ use Rattle.memory_world.specs.Physical.{opening_in}
 use Rattle.flat_machine.specs.Runs.{repeated}
 use Rattle.flat_machine.specs.Hits.{hits, hits_in_memory}
 use Rattle.file_commands.specs.Outcome.{Inputs}
-use Rattle.file_commands.specs.Arguments.{KeptItems, run}
+use Rattle.file_commands.specs.Arguments.{RunOptions, run}
 use Rattle.suite_top.specs.Kept.{keep_of}
 use Rattle.suite_top.specs.Report.{notes_text}
 use Rattle.suite_top.specs.Watched.{watched_text}
@@ -20,8 +20,8 @@ use Rattle.command_laws.specs.Beside.{halting, going_on}
 
 -- whatever is watched, and whether items are kept or not
 abbrev pub WatchesAreRuns : Type 0
-WatchesAreRuns = (manifest : List ℕ) (log : Bool) (mode : Mode) (kind : Kind) (kept : Option KeptItems) (point : PointKind) (inputs : Inputs)
-    → IsAsRun (command_outcome (Some (run manifest log mode kind kept (Some point))) inputs) (command_outcome (Some (run manifest log mode kind kept None)) inputs)
+WatchesAreRuns = (manifest : List ℕ) (options : RunOptions) (point : PointKind) (inputs : Inputs)
+    → IsAsRun (command_outcome (Some (run manifest (record options { watch = Some point }))) inputs) (command_outcome (Some (run manifest (record options { watch = None }))) inputs)
 
 -- the world that its notes are told of
 abbrev pub world_behind : {inputs : Inputs} {name : List ℕ} {keep : ℕ} {kind : Kind} → Mode → Opens inputs name keep kind → World
@@ -44,7 +44,7 @@ pub record HasMore (start lines without_it with_it : List ℕ) : Type 0 where
 
 -- where the machine is reached, the report has just these lines more, behind the notes
 abbrev pub WatchesTellHits : Type 0
-WatchesTellHits = (inputs : Inputs) (manifest : List ℕ) (log : Bool) (mode : Mode) (kind : Kind) (kept : Option KeptItems) (point : PointKind) (o : Opens inputs manifest (keep_of kept) kind)
-    → HasMore (notes_text log (world_behind mode o)) (hit_lines mode point o)
-    (command_outcome (Some (run manifest log mode kind kept None)) inputs).ending.report
-    (command_outcome (Some (run manifest log mode kind kept (Some point))) inputs).ending.report
+WatchesTellHits = (inputs : Inputs) (manifest : List ℕ) (options : RunOptions) (point : PointKind) (o : Opens inputs manifest (keep_of options.kept) options.kind)
+    → HasMore (notes_text options.log (world_behind options.mode o)) (hit_lines options.mode point o)
+    (command_outcome (Some (run manifest (record options { watch = None }))) inputs).ending.report
+    (command_outcome (Some (run manifest (record options { watch = Some point }))) inputs).ending.report

@@ -1,6 +1,5 @@
 -- What `romfs` does behind the load of its manifest.
-use Rattle.std.proofs.Common.{◌≡◌, ℕ, ◌≤◌, ◌<◌, Bool, true, false, cond, List, length, nat_lt, Result, Ok, Err, refl, sym, subst, arith, inl, inr}
-use Rattle.std.specs.Prelude.{◌⊎◌}
+use Rattle.std.proofs.Common.{◌≡◌, ℕ, ◌≤◌, ◌<◌, Bool, true, false, cond, List, length, nat_lt, Result, Ok, Err, refl, sym, subst, arith}
 use Rattle.std.proofs.lemmas.Bool.Decides.{nat_tests}
 use Rattle.host_io.specs.Host.{Told}
 use Rattle.romfs_image.specs.Nodes.{RomValue}
@@ -8,11 +7,13 @@ use Rattle.romfs_image.specs.Text.{most_bytes, rom_text}
 use Rattle.manifest_text.specs.Values.{Item, Manifest}
 use Rattle.manifest_text.specs.Manifest.{Fault}
 use Rattle.run_setup.specs.Brought.{Brought, FaultAt, nothing_brought, all_brought}
-use Rattle.run_setup.specs.Faults.{IsMemory}
+use Rattle.run_setup.specs.declared.fault.LineRefusal.{LineRefusal}
+use Rattle.run_setup.specs.declared.fault.LineRefusal.TheVariants.{At, Memory}
+use Rattle.run_setup.specs.Making.{BringsAll}
 use Rattle.rom_tree.specs.Nodes.{tree_nodes}
 use Rattle.file_commands.specs.Texts.Refusals.{manifest_tail}
 use Rattle.file_commands.specs.Texts.Images.{too_large_tail, image_line}
-use Rattle.file_commands.specs.Ending.{Ending, refused_ending, memory_ending, OrMemory}
+use Rattle.file_commands.specs.Ending.{Ending, refused_ending, OrMemory}
 use Rattle.file_commands.specs.Outcome.{Outcome, storing}
 use Rattle.file_commands.specs.Load.{at_once}
 use Rattle.file_commands.specs.Convert.{stored_outcome}
@@ -20,7 +21,7 @@ use Rattle.file_commands.specs.Observed.{Observed}
 use Rattle.file_commands.specs.HostCourse.{Performs, PerformsCommand}
 use Rattle.file_commands.specs.ItemLoads.{GaveFiles}
 use Rattle.file_commands.specs.Items.{files_limit, with_items}
-use Rattle.file_commands.specs.Manifests.{fault_ending}
+use Rattle.file_commands.specs.Manifests.{fault_ending, Refuses}
 use Rattle.file_commands.specs.Romfs.{sized_outcome, imaged_outcome, treed_outcome, filed_outcome, lined_outcome}
 use Rattle.file_commands.proofs.HostCourses.{runs_out, ends_at_once}
 use Rattle.file_commands.proofs.HostSteps.{for_any_inputs, asks_nothing}
@@ -49,13 +50,12 @@ module _ (image : List ℕ) (items : List Item) (files : List (List ℕ)) (endin
   unfolding filed_outcome
   makes_tree old new b brings performs = subst (λ (r : Result Brought FaultAt). Performs old new (treed_outcome image r) ending) (sym brings) performs
 
-  pub refuses_tree : (old : Observed Told) (at : FaultAt) → IsMemory at.fault ⊎ (all_brought items files nothing_brought ≡ Err at) → OrMemory (fault_ending at) ending → (IsMemory at.fault → ending ≡ memory_ending) → Performs old old (filed_outcome image items files) ending
+  pub refuses_tree : (old : Observed Told) (refusal : LineRefusal) → BringsAll (all_brought items files nothing_brought) (Err refusal) → Refuses refusal ending → Performs old old (filed_outcome image items files) ending
   unfolding filed_outcome
-  refuses_tree old at why ends memory =
-      elim why [
-        | inl is ↦ subst (Performs old old (filed_outcome image items files)) (sym (memory is)) (runs_out old old _ refl refl)
-        | inr is ↦ subst (λ (r : Result Brought FaultAt). Performs old old (treed_outcome image r) ending) (sym is) (ends_at_once old (fault_ending at) ending (λ other. cc) ends)
-      ]
+  refuses_tree old Memory why ends = subst (Performs old old (filed_outcome image items files)) (sym ends) (runs_out old old _ refl refl)
+  refuses_tree old (At number first) is ends =
+      let at : FaultAt = record { line = number; fault = first } in
+      subst (λ (r : Result Brought FaultAt). Performs old old (treed_outcome image r) ending) (sym is) (ends_at_once old (fault_ending at) ending (λ other. cc) ends)
 
 -- ---- the image
 

@@ -1,14 +1,9 @@
 -- The numbers of a command that is read lie in their ranges.
 use Rattle.std.proofs.Common.{◌≡◌, ℕ, ◌≤◌, Bool, true, false, cond, List, [], ◌∷◌, Option, Some, None, refl, arith}
 use Rattle.std.specs.Prelude.{codes, bytes_eq, option_map}
-use Rattle.page_runs.specs.declared.place.Kind.{Kind}
-use Rattle.page_runs.specs.declared.place.Kind.TheVariants.{First}
-use Rattle.region_watch.specs.declared.mode.Mode.{Mode}
-use Rattle.region_watch.specs.declared.mode.Mode.TheVariants.{Halt, GoOn}
-use Rattle.watch_points.specs.declared.point.PointKind.{PointKind}
-use Rattle.std.specs.Option.{option_and_then}
 use Rattle.file_commands.specs.declared.command.Format.{Format}
-use Rattle.file_commands.specs.Arguments.{KeptItems, Invocation, convert, list, check, run, trace, unromfs, replay, demo, least_stack, most_stack, least_programs, most_programs, stack_of, programs_of, pid_of, kind_of_word, only, romfs_of, convert_of, placement_of, watch_of, watched_of, note_of, items_of, kept_of, placed_of, mode_of, run_of, counted_of, process_of, trace_of, format_of_word, replay_of, demo_of, command_of}
+use Rattle.file_commands.specs.declared.command.TraceOptions.{TraceOptions}
+use Rattle.file_commands.specs.Arguments.{RunOptions, Invocation, convert, list, check, run, trace, unromfs, replay, demo, least_stack, most_stack, least_programs, most_programs, stack_of, programs_of, only, romfs_of, convert_of, run_options, run_of, trace_options, trace_of, format_of_word, replay_of, demo_of, command_of}
 use Rattle.file_commands.proofs.SpelledNumbers.{is_spelled}
 
 -- what the commands ask for of their numbers
@@ -73,73 +68,21 @@ replay_has (word ∷ file ∷ items ∷ more ∷ words) = tt
 
 -- ---- `run` and `trace`
 
-module _ (manifest : List ℕ) (log : Bool) (mode : Mode) where
-  told_has : (kind : Kind) (kept : Option KeptItems) (o : Option (Option PointKind)) → HasRanges (option_map (run manifest log mode kind kept) o)
-  told_has kind kept None = tt
-  told_has kind kept (Some watch) = tt
-
-  items_have : (kind : Kind) (words : List (List ℕ)) (o : Option KeptItems) → HasRanges (option_and_then (λ kept. watched_of manifest log mode kind (Some kept) words) o)
-  items_have kind words None = tt
-  items_have kind words (Some kept) = told_has kind (Some kept) (watch_of words)
-
-  kept_has : (kind : Kind) (words : List (List ℕ)) → HasRanges (kept_of manifest log mode kind words)
-  unfolding kept_of
-  kept_has kind [] = tt
-  kept_has kind (option ∷ []) = tt
-  kept_has kind (option ∷ word ∷ []) = told_has kind None (watch_of (option ∷ word ∷ []))
-  kept_has kind (option ∷ number ∷ file ∷ words) =
-      either (bytes_eq option (codes "--items")) (option_and_then (λ kept. watched_of manifest log mode kind (Some kept) words) (items_of mode number file))
-      (watched_of manifest log mode kind None (option ∷ number ∷ file ∷ words))
-      (items_have kind words (items_of mode number file)) tt
-
-  kind_has : (words : List (List ℕ)) (o : Option Kind) → HasRanges (option_and_then (λ kind. kept_of manifest log mode kind words) o)
-  kind_has words None = tt
-  kind_has words (Some kind) = kept_has kind words
-
-  placed_has : (words : List (List ℕ)) → HasRanges (placed_of manifest log mode words)
-  placed_has [] = kept_has First []
-  placed_has (option ∷ []) = kept_has First (option ∷ [])
-  placed_has (option ∷ word ∷ words) =
-      either (bytes_eq option (codes "--place")) (option_and_then (λ kind. kept_of manifest log mode kind words) (kind_of_word word)) (kept_of manifest log mode First (option ∷ word ∷ words))
-      (kind_has words (kind_of_word word)) (kept_has First (option ∷ word ∷ words))
-
-mode_has : (manifest : List ℕ) (log : Bool) (words : List (List ℕ)) → HasRanges (mode_of manifest log words)
-mode_has manifest log [] = placed_has manifest log Halt []
-mode_has manifest log (option ∷ words) =
-    either (bytes_eq option (codes "--go-on")) (placed_of manifest log GoOn words) (placed_of manifest log Halt (option ∷ words))
-    (placed_has manifest log GoOn words) (placed_has manifest log Halt (option ∷ words))
+read_has : (manifest : List ℕ) (o : Option RunOptions) → HasRanges (option_map (run manifest) o)
+read_has manifest None = tt
+read_has manifest (Some options) = tt
 
 run_has : (words : List (List ℕ)) → HasRanges (run_of words)
 run_has [] = tt
-run_has (manifest ∷ []) = mode_has manifest false []
-run_has (manifest ∷ option ∷ words) =
-    either (bytes_eq option (codes "--log")) (mode_of manifest true words) (mode_of manifest false (option ∷ words))
-    (mode_has manifest true words) (mode_has manifest false (option ∷ words))
+run_has (manifest ∷ words) = read_has manifest (run_options words)
 
-shown_has : (manifest : List ℕ) (pid : Option ℕ) (counted : Bool) (o : Option Kind) → HasRanges (option_map (trace manifest pid counted) o)
-shown_has manifest pid counted None = tt
-shown_has manifest pid counted (Some kind) = tt
-
-counted_has : (manifest : List ℕ) (pid : Option ℕ) (words : List (List ℕ)) → HasRanges (counted_of manifest pid words)
-counted_has manifest pid [] = tt
-counted_has manifest pid (option ∷ words) =
-    either (bytes_eq option (codes "--count")) (option_map (trace manifest pid true) (placement_of words)) (option_map (trace manifest pid false) (placement_of (option ∷ words)))
-    (shown_has manifest pid true (placement_of words)) (shown_has manifest pid false (placement_of (option ∷ words)))
-
-pid_has : (manifest : List ℕ) (words : List (List ℕ)) (o : Option ℕ) → HasRanges (option_and_then (λ pid. counted_of manifest (Some pid) words) o)
-pid_has manifest words None = tt
-pid_has manifest words (Some pid) = counted_has manifest (Some pid) words
-
-process_has : (manifest : List ℕ) (words : List (List ℕ)) → HasRanges (process_of manifest words)
-process_has manifest [] = tt
-process_has manifest (number ∷ words) = pid_has manifest words (pid_of number)
+shown_has : (manifest : List ℕ) (o : Option TraceOptions) → HasRanges (option_map (trace manifest) o)
+shown_has manifest None = tt
+shown_has manifest (Some options) = tt
 
 trace_has : (words : List (List ℕ)) → HasRanges (trace_of words)
 trace_has [] = tt
-trace_has (manifest ∷ []) = counted_has manifest None []
-trace_has (manifest ∷ option ∷ words) =
-    either (bytes_eq option (codes "--pid")) (process_of manifest words) (counted_of manifest None (option ∷ words))
-    (process_has manifest words) (counted_has manifest None (option ∷ words))
+trace_has (manifest ∷ words) = shown_has manifest (trace_options words)
 
 -- ---- `demo`
 

@@ -4,7 +4,7 @@ use Rattle.std.specs.Prelude.{codes}
 use Rattle.std.specs.Fmt.{digits}
 use Rattle.file_commands.specs.Sizes.{Sizes, header_sizes}
 use Rattle.file_commands.specs.Texts.{refusal_tail, convert_line, check_line, demo_line}
-use Rattle.file_commands.specs.Arguments.{convert, check, run, trace, demo, command_of, kept_of}
+use Rattle.file_commands.specs.Arguments.{convert, check, run, trace, demo, command_of, run_options, trace_options}
 use Rattle.elf2flt_tool.specs.declared.refusal.Refusal.TheVariants as refusal
 use Rattle.page_runs.specs.declared.place.Kind.TheVariants.{First, Best, Last}
 use Rattle.region_watch.specs.declared.mode.Mode.TheVariants.{Halt, GoOn}
@@ -57,50 +57,50 @@ zero_in_front = refl
 check_is_read : command_of (codes "check" ∷ codes "a.elf" ∷ []) ≡ Some (check (codes "a.elf"))
 check_is_read = refl
 
-run_is_read : command_of (codes "run" ∷ codes "a" ∷ []) ≡ Some (run (codes "a") false Halt First None None)
-unfolding kept_of
+run_is_read : command_of (codes "run" ∷ codes "a" ∷ []) ≡ Some (run (codes "a") (record { log = false; mode = Halt; kind = First; kept = None; watch = None }))
+unfolding run_options
 run_is_read = refl
 
-log_is_read : command_of (codes "run" ∷ codes "a" ∷ codes "--log" ∷ []) ≡ Some (run (codes "a") true Halt First None None)
-unfolding kept_of
+log_is_read : command_of (codes "run" ∷ codes "a" ∷ codes "--log" ∷ []) ≡ Some (run (codes "a") (record { log = true; mode = Halt; kind = First; kept = None; watch = None }))
+unfolding run_options
 log_is_read = refl
 
-placement_is_read : command_of (codes "run" ∷ codes "a" ∷ codes "--place" ∷ codes "best" ∷ []) ≡ Some (run (codes "a") false Halt Best None None)
-unfolding kept_of
+placement_is_read : command_of (codes "run" ∷ codes "a" ∷ codes "--place" ∷ codes "best" ∷ []) ≡ Some (run (codes "a") (record { log = false; mode = Halt; kind = Best; kept = None; watch = None }))
+unfolding run_options
 placement_is_read = refl
 
-both_are_read : command_of (codes "run" ∷ codes "a" ∷ codes "--log" ∷ codes "--place" ∷ codes "last" ∷ []) ≡ Some (run (codes "a") true Halt Last None None)
-unfolding kept_of
+both_are_read : command_of (codes "run" ∷ codes "a" ∷ codes "--log" ∷ codes "--place" ∷ codes "last" ∷ []) ≡ Some (run (codes "a") (record { log = true; mode = Halt; kind = Last; kept = None; watch = None }))
+unfolding run_options
 both_are_read = refl
 
 placement_in_front : command_of (codes "run" ∷ codes "a" ∷ codes "--place" ∷ codes "best" ∷ codes "--log" ∷ []) ≡ None
-unfolding kept_of
+unfolding run_options
 placement_in_front = refl
 
-go_on_is_read : command_of (codes "run" ∷ codes "a" ∷ codes "--go-on" ∷ []) ≡ Some (run (codes "a") false GoOn First None None)
-unfolding kept_of
+go_on_is_read : command_of (codes "run" ∷ codes "a" ∷ codes "--go-on" ∷ []) ≡ Some (run (codes "a") (record { log = false; mode = GoOn; kind = First; kept = None; watch = None }))
+unfolding run_options
 go_on_is_read = refl
 
-all_are_read : command_of (codes "run" ∷ codes "a" ∷ codes "--log" ∷ codes "--go-on" ∷ codes "--place" ∷ codes "last" ∷ []) ≡ Some (run (codes "a") true GoOn Last None None)
-unfolding kept_of
+all_are_read : command_of (codes "run" ∷ codes "a" ∷ codes "--log" ∷ codes "--go-on" ∷ codes "--place" ∷ codes "last" ∷ []) ≡ Some (run (codes "a") (record { log = true; mode = GoOn; kind = Last; kept = None; watch = None }))
+unfolding run_options
 all_are_read = refl
 
 go_on_in_front : command_of (codes "run" ∷ codes "a" ∷ codes "--go-on" ∷ codes "--log" ∷ []) ≡ None
-unfolding kept_of
+unfolding run_options
 go_on_in_front = refl
 
 unknown_placement : command_of (codes "run" ∷ codes "a" ∷ codes "--place" ∷ codes "worst" ∷ []) ≡ None
-unfolding kept_of
+unfolding run_options
 unknown_placement = refl
 
-watch_is_read : command_of (codes "run" ∷ codes "a" ∷ codes "--watch" ∷ codes "touch" ∷ []) ≡ Some (run (codes "a") false Halt First None (Some Touch))
-unfolding kept_of
+watch_is_read : command_of (codes "run" ∷ codes "a" ∷ codes "--watch" ∷ codes "touch" ∷ []) ≡ Some (run (codes "a") (record { log = false; mode = Halt; kind = First; kept = None; watch = Some Touch }))
+unfolding run_options
 watch_is_read = refl
 
 watch_is_the_last :
     command_of (codes "run" ∷ codes "a" ∷ codes "--log" ∷ codes "--go-on" ∷ codes "--place" ∷ codes "last" ∷ codes "--watch" ∷ codes "within" ∷ [])
-    ≡ Some (run (codes "a") true GoOn Last None (Some Within))
-unfolding kept_of
+    ≡ Some (run (codes "a") (record { log = true; mode = GoOn; kind = Last; kept = None; watch = Some Within }))
+unfolding run_options
 watch_is_the_last = refl
 
 -- another kind, none, one before another option, and two
@@ -109,20 +109,20 @@ no_watch :
     ∷ command_of (codes "run" ∷ codes "a" ∷ codes "--watch" ∷ codes "touch" ∷ codes "--place" ∷ codes "best" ∷ [])
     ∷ command_of (codes "run" ∷ codes "a" ∷ codes "--watch" ∷ codes "touch" ∷ codes "--watch" ∷ codes "within" ∷ []) ∷ [])
     ≡ (None ∷ None ∷ None ∷ None ∷ [])
-unfolding kept_of
+unfolding run_options
 no_watch = refl
 
 items_are_read :
     command_of (codes "run" ∷ codes "a" ∷ codes "--items" ∷ codes "1" ∷ codes "i" ∷ [])
-    ≡ Some (run (codes "a") false Halt First (Some (record { number = 1; file = codes "i" })) None)
-unfolding digits kept_of
+    ≡ Some (run (codes "a") (record { log = false; mode = Halt; kind = First; kept = Some (record { number = 1; file = codes "i" }); watch = None }))
+unfolding digits run_options
 items_are_read = refl
 
 -- behind the placement, and before what is watched
 items_are_last_but_one :
     command_of (codes "run" ∷ codes "a" ∷ codes "--log" ∷ codes "--place" ∷ codes "best" ∷ codes "--items" ∷ codes "1000000" ∷ codes "i" ∷ codes "--watch" ∷ codes "touch" ∷ [])
-    ≡ Some (run (codes "a") true Halt Best (Some (record { number = 1000000; file = codes "i" })) (Some Touch))
-unfolding digits kept_of
+    ≡ Some (run (codes "a") (record { log = true; mode = Halt; kind = Best; kept = Some (record { number = 1000000; file = codes "i" }); watch = Some Touch }))
+unfolding digits run_options
 items_are_last_but_one = refl
 
 -- of load note 0, of one past the last that has a number, without a file, of a run that goes on, and behind what is watched
@@ -133,26 +133,29 @@ no_items :
     ∷ command_of (codes "run" ∷ codes "a" ∷ codes "--go-on" ∷ codes "--items" ∷ codes "1" ∷ codes "i" ∷ [])
     ∷ command_of (codes "run" ∷ codes "a" ∷ codes "--watch" ∷ codes "touch" ∷ codes "--items" ∷ codes "1" ∷ codes "i" ∷ []) ∷ [])
     ≡ (None ∷ None ∷ None ∷ None ∷ None ∷ [])
-unfolding digits kept_of
+unfolding digits run_options
 no_items = refl
 
 -- a trace, of all processes or of one
-trace_is_read : command_of (codes "trace" ∷ codes "a" ∷ []) ≡ Some (trace (codes "a") None false First)
+trace_is_read : command_of (codes "trace" ∷ codes "a" ∷ []) ≡ Some (trace (codes "a") (record { pid = None; counted = false; kind = First }))
+unfolding trace_options
 trace_is_read = refl
 
-count_is_read : command_of (codes "trace" ∷ codes "a" ∷ codes "--count" ∷ []) ≡ Some (trace (codes "a") None true First)
+count_is_read : command_of (codes "trace" ∷ codes "a" ∷ codes "--count" ∷ []) ≡ Some (trace (codes "a") (record { pid = None; counted = true; kind = First }))
+unfolding trace_options
 count_is_read = refl
 
-pid_is_read : command_of (codes "trace" ∷ codes "a" ∷ codes "--pid" ∷ codes "1000000" ∷ []) ≡ Some (trace (codes "a") (Some 1000000) false First)
-unfolding digits
+pid_is_read : command_of (codes "trace" ∷ codes "a" ∷ codes "--pid" ∷ codes "1000000" ∷ []) ≡ Some (trace (codes "a") (record { pid = Some 1000000; counted = false; kind = First }))
+unfolding digits trace_options
 pid_is_read = refl
 
-trace_is_placed : command_of (codes "trace" ∷ codes "a" ∷ codes "--place" ∷ codes "best" ∷ []) ≡ Some (trace (codes "a") None false Best)
+trace_is_placed : command_of (codes "trace" ∷ codes "a" ∷ codes "--place" ∷ codes "best" ∷ []) ≡ Some (trace (codes "a") (record { pid = None; counted = false; kind = Best }))
+unfolding trace_options
 trace_is_placed = refl
 
 whole_trace_is_read :
-    command_of (codes "trace" ∷ codes "a" ∷ codes "--pid" ∷ codes "2" ∷ codes "--count" ∷ codes "--place" ∷ codes "last" ∷ []) ≡ Some (trace (codes "a") (Some 2) true Last)
-unfolding digits
+    command_of (codes "trace" ∷ codes "a" ∷ codes "--pid" ∷ codes "2" ∷ codes "--count" ∷ codes "--place" ∷ codes "last" ∷ []) ≡ Some (trace (codes "a") (record { pid = Some 2; counted = true; kind = Last }))
+unfolding digits trace_options
 whole_trace_is_read = refl
 
 -- no process has such a pid
@@ -160,17 +163,19 @@ no_pid :
     (command_of (codes "trace" ∷ codes "a" ∷ codes "--pid" ∷ codes "0" ∷ []) ∷ command_of (codes "trace" ∷ codes "a" ∷ codes "--pid" ∷ codes "1000001" ∷ [])
     ∷ command_of (codes "trace" ∷ codes "a" ∷ codes "--pid" ∷ codes "01" ∷ []) ∷ command_of (codes "trace" ∷ codes "a" ∷ codes "--pid" ∷ []) ∷ [])
     ≡ (None ∷ None ∷ None ∷ None ∷ [])
-unfolding digits
+unfolding digits trace_options
 no_pid = refl
 
 -- words in another order, of another command, or said again
 count_in_front : command_of (codes "trace" ∷ codes "a" ∷ codes "--count" ∷ codes "--pid" ∷ codes "1" ∷ []) ≡ None
+unfolding trace_options
 count_in_front = refl
 
 no_trace :
     (command_of (codes "trace" ∷ []) ∷ command_of (codes "trace" ∷ codes "a" ∷ codes "--log" ∷ []) ∷ command_of (codes "trace" ∷ codes "a" ∷ codes "--go-on" ∷ [])
     ∷ command_of (codes "trace" ∷ codes "a" ∷ codes "--count" ∷ codes "--count" ∷ []) ∷ [])
     ≡ (None ∷ None ∷ None ∷ None ∷ [])
+unfolding trace_options
 no_trace = refl
 
 -- the line of `check`, and the tails of refused relocations and places

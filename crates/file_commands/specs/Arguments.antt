@@ -1,7 +1,7 @@
 -- The table of commands. The arguments are those after the program's name; a name is any text.
-use Rattle.std.specs.Prelude.{ℕ, Bool, true, false, ◌&&◌, nat_le, List, [], ◌∷◌, codes, slice_index, bytes_eq, decimal, Option, Some, None, option_map, if◌then◌else◌}
+use Rattle.std.specs.Prelude.{ℕ, Bool, true, false, String, string_bytes, map, ◌&&◌, nat_le, List, [], ◌∷◌, codes, slice_index, bytes_eq, decimal, Option, Some, None, option_map, if◌then◌else◌}
+use Rattle.std.specs.Borrow.{Bor}
 use Rattle.std.specs.Int.{IsInRange}
-use Rattle.std.specs.Option.{option_and_then}
 use Rattle.std.specs.Str.Parse.{digits_value}
 use Rattle.page_runs.specs.declared.place.Kind.{Kind}
 use Rattle.page_runs.specs.declared.place.Kind.TheVariants.{First, Best, Last}
@@ -11,7 +11,10 @@ use Rattle.watch_points.specs.declared.point.PointKind.{PointKind}
 use Rattle.watch_points.specs.declared.point.PointKind.TheVariants.{Touch, Within}
 use Rattle.file_commands.specs.declared.command.Format.{Format}
 use Rattle.file_commands.specs.declared.command.Format.TheVariants as format
+use Rattle.items_text.specs.Pieces.{◌>>=◌}
 use Rattle.file_commands.specs.declared.command.KeptItems.{KeptItems as KeptArguments}
+use Rattle.file_commands.specs.declared.command.RunOptions.{RunOptions as RunArguments}
+use Rattle.file_commands.specs.declared.command.TraceOptions.{TraceOptions}
 use Rattle.file_commands.specs.declared.command.Command.{Command}
 use Rattle.file_commands.specs.declared.command.Command.TheVariants as command
 
@@ -20,13 +23,21 @@ pub record KeptItems : Type 0 where
   pub number : ℕ
   pub file : List ℕ
 
+-- how a manifest is run, and what is told and kept of the run
+pub record RunOptions : Type 0 where
+  pub log : Bool
+  pub mode : Mode
+  pub kind : Kind
+  pub kept : Option KeptItems
+  pub watch : Option PointKind
+
 -- a command with its arguments
 pub data Invocation : Type 0 where
   convert : (elf flt : List ℕ) (stack : ℕ) → Invocation
   list : (flt : List ℕ) → Invocation
   check : (elf : List ℕ) → Invocation
-  run : (manifest : List ℕ) (log : Bool) (mode : Mode) (kind : Kind) (kept : Option KeptItems) (watch : Option PointKind) → Invocation
-  trace : (manifest : List ℕ) (pid : Option ℕ) (counted : Bool) (kind : Kind) → Invocation
+  run : (manifest : List ℕ) (options : RunOptions) → Invocation
+  trace : (manifest : List ℕ) (options : TraceOptions) → Invocation
   romfs : (manifest image : List ℕ) → Invocation
   unromfs : (image : List ℕ) → Invocation
   replay : (format : Format) (file items : List ℕ) → Invocation
@@ -126,72 +137,80 @@ convert_of (elf ∷ flt ∷ []) = Some (convert elf flt default_stack)
 convert_of (elf ∷ flt ∷ option ∷ number ∷ []) = if bytes_eq option (codes "--stack") then option_map (convert elf flt) (stack_of number) else None
 convert_of words = None
 
+-- ---- options, each of which is given or not: what it says, and the words behind it; or nothing, where its own words are wrong
+
+abbrev pub Read : Type 0 → Type 0
+Read A = Option (A × List (List ℕ))
+
+-- an option that is a word alone
+abbrev pub flag_of : (option : List ℕ) → List (List ℕ) → Read Bool
+flag_of option [] = Some (false, [])
+flag_of option (word ∷ words) = if bytes_eq word option then Some (true, words) else Some (false, word ∷ words)
+
+-- `--go-on`
+abbrev pub mode_where : (go_on : Bool) → Mode
+mode_where true = GoOn
+mode_where false = Halt
+
 -- `--place K`, or nothing for the first fit
-abbrev pub placement_of : List (List ℕ) → Option Kind
-placement_of [] = Some First
-placement_of (option ∷ word ∷ []) = if bytes_eq option (codes "--place") then kind_of_word word else None
-placement_of words = None
+abbrev pub place_of : List (List ℕ) → Read Kind
+place_of (option ∷ word ∷ words) =
+    if bytes_eq option (codes "--place") then option_map (λ kind. (kind, words)) (kind_of_word word) else Some (First, option ∷ word ∷ words)
+place_of words = Some (First, words)
 
--- `--watch touch` or `--watch within`, or nothing where no hits are told
-abbrev pub watch_of : List (List ℕ) → Option (Option PointKind)
-watch_of [] = Some None
-watch_of (option ∷ word ∷ []) = if bytes_eq option (codes "--watch") then option_map Some (point_of_word word) else None
-watch_of words = None
-
--- the last words of `run`
-abbrev pub watched_of : (manifest : List ℕ) (log : Bool) (mode : Mode) (kind : Kind) (kept : Option KeptItems) → List (List ℕ) → Option Invocation
-watched_of manifest log mode kind kept words = option_map (run manifest log mode kind kept) (watch_of words)
-
--- `N FILE`: a run that goes on behind its first stray access keeps no items
+-- `--items N FILE`: a run that goes on behind its first stray access keeps no items
 abbrev pub items_of : Mode → (number file : List ℕ) → Option KeptItems
 items_of Halt number file = option_map (λ n. record { number = n; file = file }) (note_of number)
 items_of GoOn number file = None
 
--- `--items N FILE` or not, and then `--watch` with its word or not
-unfoldable pub kept_of : (manifest : List ℕ) (log : Bool) (mode : Mode) (kind : Kind) → List (List ℕ) → Option Invocation
-kept_of manifest log mode kind (option ∷ number ∷ file ∷ words) =
-    if bytes_eq option (codes "--items") then option_and_then (λ kept. watched_of manifest log mode kind (Some kept) words) (items_of mode number file)
-    else watched_of manifest log mode kind None (option ∷ number ∷ file ∷ words)
-kept_of manifest log mode kind words = watched_of manifest log mode kind None words
+abbrev pub kept_of : Mode → List (List ℕ) → Read (Option KeptItems)
+kept_of mode (option ∷ number ∷ file ∷ words) =
+    if bytes_eq option (codes "--items") then option_map (λ kept. (Some kept, words)) (items_of mode number file) else Some (None, option ∷ number ∷ file ∷ words)
+kept_of mode words = Some (None, words)
 
--- `--place K` or not, and then the words behind it
-abbrev pub placed_of : (manifest : List ℕ) (log : Bool) (mode : Mode) → List (List ℕ) → Option Invocation
-placed_of manifest log mode (option ∷ word ∷ words) =
-    if bytes_eq option (codes "--place") then option_and_then (λ kind. kept_of manifest log mode kind words) (kind_of_word word)
-    else kept_of manifest log mode First (option ∷ word ∷ words)
-placed_of manifest log mode words = kept_of manifest log mode First words
+-- `--watch touch` or `--watch within`
+abbrev pub watch_of : List (List ℕ) → Read (Option PointKind)
+watch_of (option ∷ word ∷ words) =
+    if bytes_eq option (codes "--watch") then option_map (λ point. (Some point, words)) (point_of_word word) else Some (None, option ∷ word ∷ words)
+watch_of words = Some (None, words)
 
--- `--go-on` or not, and then the words behind it
-abbrev pub mode_of : (manifest : List ℕ) (log : Bool) → List (List ℕ) → Option Invocation
-mode_of manifest log [] = placed_of manifest log Halt []
-mode_of manifest log (option ∷ words) =
-    if bytes_eq option (codes "--go-on") then placed_of manifest log GoOn words else placed_of manifest log Halt (option ∷ words)
+-- `--pid P`
+abbrev pub process_of : List (List ℕ) → Read (Option ℕ)
+process_of (option ∷ number ∷ words) =
+    if bytes_eq option (codes "--pid") then option_map (λ pid. (Some pid, words)) (pid_of number) else Some (None, option ∷ number ∷ words)
+process_of words = Some (None, words)
 
--- `MANIFEST`, with `--log` behind it or not
+-- what the options said, where no word is behind them
+abbrev pub if_last : {A : Type 0} → List (List ℕ) → A → Option A
+if_last [] options = Some options
+if_last (word ∷ words) options = None
+
+-- `[--log] [--go-on] [--place K] [--items N FILE] [--watch W]`
+unfoldable pub run_options : List (List ℕ) → Option RunOptions
+run_options words = do
+  log ← flag_of (codes "--log") words
+  go_on ← flag_of (codes "--go-on") log.1
+  place ← place_of go_on.1
+  kept ← kept_of (mode_where go_on.0) place.1
+  watch ← watch_of kept.1
+  if_last watch.1 (record { log = log.0; mode = mode_where go_on.0; kind = place.0; kept = kept.0; watch = watch.0 })
+
+-- `[--pid P] [--count] [--place K]`
+unfoldable pub trace_options : List (List ℕ) → Option TraceOptions
+trace_options words = do
+  pid ← process_of words
+  counted ← flag_of (codes "--count") pid.1
+  place ← place_of counted.1
+  if_last place.1 (record { pid = pid.0; counted = counted.0; kind = place.0 })
+
+-- `MANIFEST` with its options
 abbrev pub run_of : List (List ℕ) → Option Invocation
 run_of [] = None
-run_of (manifest ∷ []) = mode_of manifest false []
-run_of (manifest ∷ option ∷ words) =
-    if bytes_eq option (codes "--log") then mode_of manifest true words else mode_of manifest false (option ∷ words)
+run_of (manifest ∷ words) = option_map (run manifest) (run_options words)
 
--- `--count` or not, and then a placement or not
-abbrev pub counted_of : (manifest : List ℕ) (pid : Option ℕ) → List (List ℕ) → Option Invocation
-counted_of manifest pid [] = Some (trace manifest pid false First)
-counted_of manifest pid (option ∷ words) =
-    if bytes_eq option (codes "--count") then option_map (trace manifest pid true) (placement_of words)
-    else option_map (trace manifest pid false) (placement_of (option ∷ words))
-
--- `P`, and what stands behind it
-abbrev pub process_of : (manifest : List ℕ) → List (List ℕ) → Option Invocation
-process_of manifest [] = None
-process_of manifest (number ∷ words) = option_and_then (λ pid. counted_of manifest (Some pid) words) (pid_of number)
-
--- `MANIFEST`, with `--pid P` behind it or not
 abbrev pub trace_of : List (List ℕ) → Option Invocation
 trace_of [] = None
-trace_of (manifest ∷ []) = counted_of manifest None []
-trace_of (manifest ∷ option ∷ words) =
-    if bytes_eq option (codes "--pid") then process_of manifest words else counted_of manifest None (option ∷ words)
+trace_of (manifest ∷ words) = option_map (trace manifest) (trace_options words)
 
 -- the format that a word names
 abbrev pub format_of_word : List ℕ → Option Format
@@ -228,8 +247,8 @@ command_of (first ∷ words) =
 
 -- no command, or one without a machine
 abbrev pub IsNoRun : Option Invocation → Type 0
-IsNoRun (Some (run manifest log mode kind kept watch)) = ⊥
-IsNoRun (Some (trace manifest pid counted kind)) = ⊥
+IsNoRun (Some (run manifest options)) = ⊥
+IsNoRun (Some (trace manifest options)) = ⊥
 IsNoRun (Some (demo programs)) = ⊥
 IsNoRun other = Unit {0}
 
@@ -237,13 +256,24 @@ IsNoRun other = Unit {0}
 abbrev pub kept_value : KeptArguments → KeptItems
 kept_value k = record { number = k.number; file = k.file.now }
 
+-- what it read of an option, and the words that were left
+abbrev pub given_value : {A : Type 0} → A × Bor (List String) → A × List (List ℕ)
+given_value given = (given.0, map string_bytes given.1.now)
+
+abbrev pub kept_given : Option KeptArguments × Bor (List String) → Option KeptItems × List (List ℕ)
+kept_given given = (option_map kept_value given.0, map string_bytes given.1.now)
+
+-- the options that it read
+abbrev pub options_value : RunArguments → RunOptions
+options_value o = record { log = o.log; mode = o.mode; kind = o.kind; kept = option_map kept_value o.kept; watch = o.watch }
+
 -- the command that the program read
 abbrev pub invocation : Command → Invocation
 invocation (command.Convert elf flt stack) = convert elf.now flt.now stack
 invocation (command.List flt) = list flt.now
 invocation (command.Check elf) = check elf.now
-invocation (command.Run manifest log mode kind kept watch) = run manifest.now log mode kind (option_map kept_value kept) watch
-invocation (command.Trace manifest pid counted kind) = trace manifest.now pid counted kind
+invocation (command.Run manifest options) = run manifest.now (options_value options)
+invocation (command.Trace manifest options) = trace manifest.now options
 invocation (command.Romfs manifest image) = romfs manifest.now image.now
 invocation (command.Unromfs image) = unromfs image.now
 invocation (command.Replay kind file items) = replay kind file.now items.now

@@ -1,8 +1,8 @@
 //! The table of commands.
-ghost use Rattle.std.specs.Prelude.{◌≡◌, ◌≤◌, ◌↔◌, IsTrue, map, option_map, string_bytes};
-ghost use Rattle.file_commands.specs.Arguments.{is_between, StartsWell, number_of, kind_of_word, point_of_word, only, romfs_of, convert_of, placement_of, watch_of, items_of, kept_of, placed_of, mode_of, run_of, counted_of, process_of, trace_of, format_of_word, replay_of, demo_of, command_of, kept_value, invocation};
+ghost use Rattle.std.specs.Prelude.{◌≡◌, ◌≤◌, ◌↔◌, IsTrue, Some, map, option_map, string_bytes};
+ghost use Rattle.file_commands.specs.Arguments.{is_between, StartsWell, number_of, kind_of_word, point_of_word, only, romfs_of, convert_of, flag_of, mode_where, place_of, items_of, kept_of, watch_of, process_of, run_options, run_of, trace_options, trace_of, format_of_word, replay_of, demo_of, command_of, given_value, kept_value, kept_given, options_value, invocation};
 
-use crate::command::{Command, Format, KeptItems};
+use crate::command::{Command, Format, KeptItems, RunOptions, TraceOptions};
 use page_runs::Kind;
 use region_watch::Mode;
 use watch_points::PointKind;
@@ -121,28 +121,33 @@ fn read_convert(words: &[String]) -> Option<Command<'_>>
     }
 }
 
-/// The placement that the last words of `trace` say.
-fn read_placement(words: &[String]) -> Option<Kind>
-    ensures { result ≡ placement_of (map string_bytes words.now) }
+/// Whether the words begin with an option that is a word alone, and the words behind it.
+fn read_flag<'a>(option: &str, words: &'a [String]) -> (bool, &'a [String])
+    ensures { Some (given_value result) ≡ flag_of option.now (map string_bytes words.now) }
 {
     match words {
-        [] => Some(Kind::First),
-        [option, word] if option.as_str() == "--place" => read_kind(word),
-        _ => None,
+        [word, last @ ..] if word.as_str() == option => (true, last),
+        _ => (false, words),
     }
 }
 
-/// The last words of `run`: which hits are told, if any are.
-fn read_watch(words: &[String]) -> Option<Option<PointKind>>
-    ensures { result ≡ watch_of (map string_bytes words.now) }
+/// What becomes of a run at its first stray access.
+fn mode_where(go_on: bool) -> Mode
+    ensures { result ≡ mode_where go_on }
+{
+    if go_on { Mode::GoOn } else { Mode::Halt }
+}
+
+/// The placement, and the words behind it.
+fn read_place(words: &[String]) -> Option<(Kind, &[String])>
+    ensures { option_map given_value result ≡ place_of (map string_bytes words.now) }
 {
     match words {
-        [] => Some(None),
-        [option, word] if option.as_str() == "--watch" => {
-            let point = read_point(word)?;
-            Some(Some(point))
+        [option, word, last @ ..] if option.as_str() == "--place" => {
+            let kind = read_kind(word)?;
+            Some((kind, last))
         }
-        _ => None,
+        _ => Some((Kind::First, words)),
     }
 }
 
@@ -159,26 +164,60 @@ fn read_items<'a>(mode: Mode, number: &str, file: &'a str) -> Option<KeptItems<'
     }
 }
 
-/// The words behind `run MANIFEST`, `--log`, `--go-on` and `--place K`.
-#[tactic(auto, unfolding(crate::specs::Arguments::kept_of))]
-fn read_kept<'a>(
-    manifest: &'a str,
-    log: bool,
-    mode: Mode,
-    kind: Kind,
-    words: &'a [String],
-) -> Option<Command<'a>>
-    ensures { option_map invocation result ≡ kept_of manifest.now log mode kind (map string_bytes words.now) }
+/// Whose items are kept, if any are, and the words behind that.
+fn read_kept(mode: Mode, words: &[String]) -> Option<(Option<KeptItems<'_>>, &[String])>
+    ensures { option_map kept_given result ≡ kept_of mode (map string_bytes words.now) }
 {
-    let (kept, last) = match words {
+    match words {
         [option, number, file, last @ ..] if option.as_str() == "--items" => {
-            (Some(read_items(mode, number, file)?), last)
+            let kept = read_items(mode, number, file)?;
+            Some((Some(kept), last))
         }
-        _ => (None, words),
-    };
-    let watch = read_watch(last)?;
-    Some(Command::Run {
-        manifest,
+        _ => Some((None, words)),
+    }
+}
+
+/// Which hits are told, if any are, and the words behind that.
+fn read_watch(words: &[String]) -> Option<(Option<PointKind>, &[String])>
+    ensures { option_map given_value result ≡ watch_of (map string_bytes words.now) }
+{
+    match words {
+        [option, word, last @ ..] if option.as_str() == "--watch" => {
+            let point = read_point(word)?;
+            Some((Some(point), last))
+        }
+        _ => Some((None, words)),
+    }
+}
+
+/// The one process that is shown, if not all are, and the words behind it.
+fn read_process(words: &[String]) -> Option<(Option<u32>, &[String])>
+    ensures { option_map given_value result ≡ process_of (map string_bytes words.now) }
+{
+    match words {
+        [option, number, last @ ..] if option.as_str() == "--pid" => {
+            let pid = read_number(number, LEAST_PID, MOST_PID)?;
+            Some((Some(pid), last))
+        }
+        _ => Some((None, words)),
+    }
+}
+
+/// The words behind `run MANIFEST`. Each option is read from the words that the one before it left.
+#[tactic(auto, unfolding(crate::specs::Arguments::run_options))]
+fn read_run_options(words: &[String]) -> Option<RunOptions<'_>>
+    ensures { option_map options_value result ≡ run_options (map string_bytes words.now) }
+{
+    let (log, words) = read_flag("--log", words);
+    let (go_on, words) = read_flag("--go-on", words);
+    let mode = mode_where(go_on);
+    let (kind, words) = read_place(words)?;
+    let (kept, words) = read_kept(mode, words)?;
+    let (watch, words) = read_watch(words)?;
+    if !words.is_empty() {
+        return None;
+    }
+    Some(RunOptions {
         log,
         mode,
         kind,
@@ -187,81 +226,36 @@ fn read_kept<'a>(
     })
 }
 
-/// The words behind `run MANIFEST`, `--log` and `--go-on`.
-fn read_placed<'a>(
-    manifest: &'a str,
-    log: bool,
-    mode: Mode,
-    words: &'a [String],
-) -> Option<Command<'a>>
-    ensures { option_map invocation result ≡ placed_of manifest.now log mode (map string_bytes words.now) }
-{
-    match words {
-        [option, word, last @ ..] if option.as_str() == "--place" => {
-            let kind = read_kind(word)?;
-            read_kept(manifest, log, mode, kind, last)
-        }
-        _ => read_kept(manifest, log, mode, Kind::First, words),
-    }
-}
-
-/// The words behind `run MANIFEST`, and behind `--log`.
-fn read_mode<'a>(manifest: &'a str, log: bool, words: &'a [String]) -> Option<Command<'a>>
-    ensures { option_map invocation result ≡ mode_of manifest.now log (map string_bytes words.now) }
-{
-    let (mode, last) = match words {
-        [go_on, last @ ..] if go_on.as_str() == "--go-on" => (Mode::GoOn, last),
-        _ => (Mode::Halt, words),
-    };
-    read_placed(manifest, log, mode, last)
-}
-
 /// The words behind `run`.
 fn read_run(words: &[String]) -> Option<Command<'_>>
     ensures { option_map invocation result ≡ run_of (map string_bytes words.now) }
 {
-    let (manifest, options) = words.split_first()?;
-    match options {
-        [log, last @ ..] if log.as_str() == "--log" => read_mode(manifest, true, last),
-        _ => read_mode(manifest, false, options),
+    let (manifest, words) = words.split_first()?;
+    let options = read_run_options(words)?;
+    Some(Command::Run { manifest, options })
+}
+
+/// The words behind `trace MANIFEST`.
+#[tactic(auto, unfolding(crate::specs::Arguments::trace_options))]
+fn read_trace_options(words: &[String]) -> Option<TraceOptions>
+    ensures { result ≡ trace_options (map string_bytes words.now) }
+{
+    let (pid, words) = read_process(words)?;
+    let (counted, words) = read_flag("--count", words);
+    let (kind, words) = read_place(words)?;
+    if !words.is_empty() {
+        return None;
     }
-}
-
-/// The words behind `trace MANIFEST`, and behind `--pid P`.
-fn read_counted<'a>(manifest: &'a str, pid: Option<u32>, words: &[String]) -> Option<Command<'a>>
-    ensures { option_map invocation result ≡ counted_of manifest.now pid (map string_bytes words.now) }
-{
-    let (counted, last) = match words {
-        [count, last @ ..] if count.as_str() == "--count" => (true, last),
-        _ => (false, words),
-    };
-    let kind = read_placement(last)?;
-    Some(Command::Trace {
-        manifest,
-        pid,
-        counted,
-        kind,
-    })
-}
-
-/// The words behind `trace MANIFEST --pid`.
-fn read_process<'a>(manifest: &'a str, words: &[String]) -> Option<Command<'a>>
-    ensures { option_map invocation result ≡ process_of manifest.now (map string_bytes words.now) }
-{
-    let (number, last) = words.split_first()?;
-    let pid = read_number(number, LEAST_PID, MOST_PID)?;
-    read_counted(manifest, Some(pid), last)
+    Some(TraceOptions { pid, counted, kind })
 }
 
 /// The words behind `trace`.
 fn read_trace(words: &[String]) -> Option<Command<'_>>
     ensures { option_map invocation result ≡ trace_of (map string_bytes words.now) }
 {
-    let (manifest, options) = words.split_first()?;
-    match options {
-        [pid, last @ ..] if pid.as_str() == "--pid" => read_process(manifest, last),
-        _ => read_counted(manifest, None, options),
-    }
+    let (manifest, words) = words.split_first()?;
+    let options = read_trace_options(words)?;
+    Some(Command::Trace { manifest, options })
 }
 
 /// The format that a word names, if it names one.

@@ -22,6 +22,32 @@ pub struct KeptItems<'a> {
     pub file: &'a str,
 }
 
+/// How a manifest is run, and what is told and kept of the run. Each option stands in the order in which the words say it.
+#[derive(Clone, Copy)]
+pub struct RunOptions<'a> {
+    /// `--log`: the calls are told too.
+    pub log: bool,
+    /// `--go-on`: the run goes on behind its first stray access.
+    pub mode: Mode,
+    /// `--place K`: another placement than the first fit.
+    pub kind: Kind,
+    /// `--items N FILE`: the items of the space of load note N are kept in FILE.
+    pub kept: Option<KeptItems<'a>>,
+    /// `--watch W`: the accesses that hit what the manifest watches are told.
+    pub watch: Option<PointKind>,
+}
+
+/// What is shown of a run as a trace.
+#[derive(Clone, Copy, PartialEq, Eq)]
+pub struct TraceOptions {
+    /// `--pid P`: the calls of that process alone are shown.
+    pub pid: Option<u32>,
+    /// `--count`: the shown calls are counted too.
+    pub counted: bool,
+    /// `--place K`: another placement than the first fit.
+    pub kind: Kind,
+}
+
 /// A command with its arguments.
 #[derive(Clone, Copy)]
 pub enum Command<'a> {
@@ -39,25 +65,15 @@ pub enum Command<'a> {
     Check {
         elf: &'a str,
     },
-    /// `run MANIFEST`; with `--log` the calls are told too, with `--go-on` the run goes on behind its first
-    /// stray access, with `--place K` another placement than the first fit, with `--items N FILE` the items
-    /// of the space of load note N are kept in FILE, and with `--watch` the accesses that hit what the
-    /// manifest watches are told.
+    /// `run MANIFEST` with its options.
     Run {
         manifest: &'a str,
-        log: bool,
-        mode: Mode,
-        kind: Kind,
-        kept: Option<KeptItems<'a>>,
-        watch: Option<PointKind>,
+        options: RunOptions<'a>,
     },
-    /// `trace MANIFEST`; with `--pid P` the calls of that process alone are shown, with `--count` the shown
-    /// calls are counted too, and with `--place K` another placement than the first fit.
+    /// `trace MANIFEST` with its options.
     Trace {
         manifest: &'a str,
-        pid: Option<u32>,
-        counted: bool,
-        kind: Kind,
+        options: TraceOptions,
     },
     /// `romfs MANIFEST IMG`.
     Romfs {

@@ -26,7 +26,7 @@ mod unromfs;
 pub use answer::Answer;
 pub use arguments::{DEFAULT_STACK, read_arguments};
 pub use check::check_file;
-pub use command::{Command, Format, KeptItems};
+pub use command::{Command, Format, KeptItems, RunOptions, TraceOptions};
 pub use convert::convert_file;
 pub use delivery::deliver;
 pub use ended::{Ended, settled};

@@ -96,7 +96,7 @@ fn romfs_files<H: Host>(
 {
     match bring(alloc, items, files) {
         Ok(run) => store_tree(alloc, &run.tree, image, host),
-        Err(at) => refuse_line(alloc, &at).answer(),
+        Err(refusal) => refuse_line(alloc, &refusal).answer(),
     }
 }
 

@@ -1,5 +1,7 @@
 -- What the program does with its arguments: a page of its own, or else the top call.
-use Rattle.std.specs.Prelude.{◌≡◌, ℕ, List, [], map, string_bytes, Option, Some, None}
+use Rattle.std.specs.Prelude.{◌≡◌, ◌≢◌, ℕ, List, [], map, drop, String, string_bytes, Option, Some, None, Result, Ok, Err}
+use Rattle.std_io.specs.declared.io.kind.ErrorKind.{ErrorKind}
+use Rattle.std_io.specs.declared.io.kind.ErrorKind.TheVariants as kind
 use Rattle.host_io.specs.Host.{Told}
 use Rattle.file_commands.specs.declared.status.Status.{Status}
 use Rattle.file_commands.specs.Status.{code_of}
@@ -9,6 +11,16 @@ use Rattle.file_commands.specs.Delivery.{Delivers}
 use Rattle.suite_top.specs.Call.{MeetsResult}
 use Rattle.flatc.specs.declared.program.Arguments.{Arguments}
 use Rattle.flatc.specs.declared.program.Arguments.TheVariants.{Words, NotText, OutOfMemory}
+
+-- what is made of what was read of a process: all words but the first, which is the program's name; or there was no memory for them, or
+-- for the reading; or it had another error, as where an argument isn't text
+abbrev pub IsReadOf : {A E : Type 0} → (words_of : A → List String) → (kind_of : E → ErrorKind) → Result A E → Arguments → Type 0
+IsReadOf words_of kind_of (Ok all) (Words words) = words.items ≡ drop 1 (words_of all)
+IsReadOf words_of kind_of (Ok all) NotText = ⊥
+IsReadOf words_of kind_of (Ok all) OutOfMemory = Unit {0}
+IsReadOf words_of kind_of (Err error) (Words words) = ⊥
+IsReadOf words_of kind_of (Err error) NotText = kind_of error ≢ kind.OutOfMemory
+IsReadOf words_of kind_of (Err error) OutOfMemory = kind_of error ≡ kind.OutOfMemory
 
 -- a page goes to `out`, and the host isn't asked; the host and the two sinks before and after
 abbrev pub EndsBy : (page : Option (List ℕ)) (arguments : List (List ℕ)) (host host_after : Observed Told) (out out_after report report_after : ObservedSink) → Status → Type 0

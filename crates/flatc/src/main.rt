@@ -9,7 +9,7 @@ mod program;
 
 use host_io::{ErrSink, FolderHost, OutSink, StreamSink};
 use page_runs::{Chooser, Kind, Run, best_fit, first_fit, last_fit};
-use program::{end, read_arguments};
+use program::{Choices, end, read_arguments};
 use std::process;
 use std::process::ExitCode;
 use suite_top::{Placements, Points};
@@ -43,7 +43,6 @@ fn main(rt: HostRuntime) -> ExitCode {
         &mut host,
         &mut out,
         &mut report,
-        &place,
-        &points,
+        &Choices { place, points },
     )
 }

@@ -3,11 +3,16 @@ use Rattle.std.proofs.Common.{◌≡◌, ℕ, ◌+◌, ◌≤◌, List, ◌∷�
 use Rattle.std.specs.Prelude.{◌⊎◌}
 use Rattle.std.proofs.lemmas.List.{drop_all}
 use Rattle.manifest_text.specs.Values.{Item}
+use Rattle.bflt_format.specs.declared.fault.FlatFault.TheVariants as flat
+use Rattle.elf2flt_tool.specs.declared.refusal.Refusal.TheVariants as refusal
+use Rattle.romfs_image.specs.declared.fault.RomFault.TheVariants as rom
 use Rattle.run_setup.specs.declared.fault.LineFault.{LineFault}
+use Rattle.run_setup.specs.declared.fault.LineFault.TheVariants as line
 use Rattle.run_setup.specs.declared.bringing.RunFiles.{RunFiles}
 use Rattle.run_setup.specs.Brought.{Brought, FaultAt, brought, then_brought, all_brought, nothing_brought}
 use Rattle.run_setup.specs.Faults.{IsMemory}
-use Rattle.run_setup.specs.Making.{HasPaths, HasNodes, brought_value, Added, BroughtSoFar}
+use Rattle.run_setup.specs.Refusals.{refusal_at}
+use Rattle.run_setup.specs.Making.{BringsAll, HasPaths, HasNodes, brought_value, Added, BroughtSoFar}
 
 -- before the first line
 pub begins : (items : List Item) (files : List (List ℕ)) (run : RunFiles) → brought_value run ≡ nothing_brought → HasPaths run → HasNodes run
@@ -18,6 +23,15 @@ begins items files run is has few = record {
   within = omega arith;
   goes_on = ap (all_brought items files) is;
 }
+
+-- a line is refused
+refuses : (wanted : Result Brought FaultAt) (number : ℕ) (first : LineFault) → IsMemory first ⊎ (wanted ≡ Err (record { line = number; fault = first })) → BringsAll wanted (Err (refusal_at number first))
+refuses wanted number line.Memory why = tt
+refuses wanted number (line.Elf refusal.Memory) why = tt
+refuses wanted number (line.Flat flat.Memory) why = tt
+refuses wanted number (line.Rom rom.Memory) why = tt
+refuses wanted number first (inl memory) = absurd memory
+refuses wanted number first (inr is) = is
 
 module _ (items : List Item) (files : List (List ℕ)) (run : RunFiles) (n : ℕ) (so_far : BroughtSoFar items files run n) where
   module _ (item : Item) (file : List ℕ) (opened : drop n items ≡ item ∷ drop (n + 1) items) (opened_files : drop n files ≡ file ∷ drop (n + 1) files) where
@@ -39,10 +53,12 @@ module _ (items : List Item) (files : List (List ℕ)) (run : RunFiles) (n : ℕ
     }
 
     pub stops_at : (first : LineFault) → IsMemory first ⊎ (brought (brought_value run) item file ≡ Err first)
-        → IsMemory first ⊎ (all_brought items files nothing_brought ≡ Err (record { line = item.line; fault = first }))
+        → BringsAll (all_brought items files nothing_brought) (Err (refusal_at item.line first))
     stops_at first why = elim why [
-      | inl memory ↦ inl memory
-      | inr is ↦ inr (sym so_far.goes_on ∙ here ∙ ap (λ (r : Result Brought LineFault). then_brought item r go_on) is)
+      | inl memory ↦ refuses (all_brought items files nothing_brought) item.line first (inl memory)
+      | inr is ↦
+          refuses (all_brought items files nothing_brought) item.line first
+          (inr (sym so_far.goes_on ∙ here ∙ ap (λ (r : Result Brought LineFault). then_brought item r go_on) is))
     ]
 
   pub brings_all : length items ≤ n → all_brought items files nothing_brought ≡ Ok (brought_value run)

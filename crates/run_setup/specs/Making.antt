@@ -8,13 +8,11 @@ use Rattle.mem_files.specs.Inodes.{most_nodes, node_count}
 use Rattle.machine_world.specs.Programs.{programs_of}
 use Rattle.manifest_text.specs.Values.{Item}
 use Rattle.run_setup.specs.declared.fault.LineFault.{LineFault}
-use Rattle.run_setup.specs.declared.fault.FaultAt.{FaultAt as ToldAt}
+use Rattle.run_setup.specs.declared.fault.LineRefusal.{LineRefusal}
+use Rattle.run_setup.specs.declared.fault.LineRefusal.TheVariants.{At, Memory}
 use Rattle.run_setup.specs.declared.bringing.RunFiles.{RunFiles}
 use Rattle.run_setup.specs.Brought.{Brought, FaultAt, nothing_brought, all_brought}
 use Rattle.run_setup.specs.Faults.{IsMemory}
-
-abbrev pub fault_value : ToldAt → FaultAt
-fault_value at = record { line = at.line; fault = at.fault }
 
 -- the header of a program: the first bytes of its flat file
 abbrev pub header_of : Values → List ℕ
@@ -51,6 +49,7 @@ pub record BroughtSoFar (items : List Item) (files : List (List ℕ)) (run : Run
   pub goes_on : all_brought (drop n items) (drop n files) (brought_value run) ≡ all_brought items files nothing_brought
 
 -- those of all lines, or the first fault, or out of memory
-abbrev pub BringsAll : Result Brought FaultAt → Result RunFiles ToldAt → Type 0
+abbrev pub BringsAll : Result Brought FaultAt → Result RunFiles LineRefusal → Type 0
 BringsAll wanted (Ok f) = wanted ≡ Ok (brought_value f)
-BringsAll wanted (Err at) = IsMemory at.fault ⊎ (wanted ≡ Err (fault_value at))
+BringsAll wanted (Err (At number first)) = wanted ≡ Err (record { line = number; fault = first })
+BringsAll wanted (Err Memory) = Unit {0}

@@ -14,7 +14,7 @@ ghost use Rattle.run_setup.specs.Brought.{nothing_brought, file_brought, folder_
 ghost use Rattle.run_setup.specs.Making.{HasPaths, HasNodes, brought_value, Brings, BringsAll};
 ghost use Rattle.run_setup.specs.Programs.{made_value};
 
-use crate::fault::{FaultAt, LineFault};
+use crate::fault::{LineFault, LineRefusal, refusal_at};
 use crate::program::{Made, make_elf, make_flat};
 use bflt_format::{Flat, FlatFault};
 use manifest_text::{Item, ItemKind};
@@ -37,7 +37,7 @@ pub struct RunFiles {
 }
 
 /// What these lines bring in, each with its file, or the first fault. The line of a folder has an empty file.
-pub fn bring(alloc: Global, items: &[Item], files: Vec<Vec<u8>>) -> Result<RunFiles, FaultAt>
+pub fn bring(alloc: Global, items: &[Item], files: Vec<Vec<u8>>) -> Result<RunFiles, LineRefusal>
     requires items { AllByRecursion IsItem (map item_value items.now) }
     requires files { length files.items ≡ length items.now }
     ensures brought { BringsAll (all_brought (map item_value items.now) (vec_texts files.items) nothing_brought) result }
@@ -50,19 +50,11 @@ pub fn bring(alloc: Global, items: &[Item], files: Vec<Vec<u8>>) -> Result<RunFi
 {
     let mut run = match RunFiles::new(alloc) {
         Ok(run) => run,
-        Err(AllocError) => {
-            return Err(FaultAt {
-                line: 0,
-                fault: LineFault::Memory,
-            });
-        }
+        Err(AllocError) => return Err(LineRefusal::Memory),
     };
     for (item, file) in items.iter().zip(files) {
         if let Err(fault) = run.add(alloc, item, file) {
-            return Err(FaultAt {
-                line: item.line,
-                fault,
-            });
+            return Err(refusal_at(item.line, fault));
         }
     }
     Ok(run)

@@ -2,6 +2,7 @@
 
 ghost use Rattle.std.specs.Prelude.{◌≡◌};
 ghost use Rattle.run_setup.specs.declared.fault.LineFault.TheVariants.{Memory};
+ghost use Rattle.run_setup.specs.Refusals.{refusal_at};
 
 use bflt_format::FlatFault;
 use call_log::Errno;
@@ -29,15 +30,30 @@ pub enum LineFault {
     E2big,
     /// No free run has the pages of its block.
     NoRun,
-    /// Out of memory, which is no fault of a line.
+    /// Out of memory, which is no fault of a line: no refusal has it.
     Memory,
 }
 
-/// A fault of the line with this number.
+/// Why lines of a manifest are refused.
 #[derive(Drop)]
-pub struct FaultAt {
-    pub line: u32,
-    pub fault: LineFault,
+pub enum LineRefusal {
+    /// The line with this number has a fault.
+    At { line: u32, fault: LineFault },
+    /// Out of memory.
+    Memory,
+}
+
+/// The refusal of a line with this fault.
+pub fn refusal_at(line: u32, fault: LineFault) -> LineRefusal
+    ensures { result ≡ refusal_at line fault }
+{
+    match fault {
+        LineFault::Memory
+        | LineFault::Elf(Refusal::Memory)
+        | LineFault::Flat(FlatFault::Memory)
+        | LineFault::Rom(RomFault::Memory) => LineRefusal::Memory,
+        fault => LineRefusal::At { line, fault },
+    }
 }
 
 impl From<AllocError> for LineFault {

@@ -9,4 +9,4 @@ mod fault;
 mod program;
 
 pub use bringing::{RunFiles, bring};
-pub use fault::{FaultAt, LineFault};
+pub use fault::{LineFault, LineRefusal};

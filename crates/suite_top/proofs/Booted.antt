@@ -23,15 +23,13 @@ use Rattle.region_watch.specs.declared.mode.Mode.{Mode}
 use Rattle.region_watch.specs.declared.mode.Mode.TheVariants.{Halt, GoOn}
 use Rattle.flat_machine.specs.State.{State, world, one_memory, lines_of}
 use Rattle.flat_machine.specs.Boots.{Boots}
-use Rattle.suite_top.specs.declared.telling.Telling.{Telling}
 use Rattle.host_io.specs.Host.{Told}
-use Rattle.file_commands.specs.Arguments.{KeptItems}
-use Rattle.file_commands.specs.Ending.{Ending, memory_ending, OrMemory}
+use Rattle.file_commands.specs.Ending.{Ending, OrMemory}
 use Rattle.file_commands.specs.Observed.{Observed}
 use Rattle.file_commands.specs.HostCourse.{Performs}
-use Rattle.run_setup.specs.Faults.{IsMemory}
-use Rattle.suite_top.specs.Refusing.{told_fault}
-use Rattle.file_commands.specs.Manifests.{fault_ending}
+use Rattle.suite_top.specs.Refusing.{told_refusal}
+use Rattle.file_commands.specs.Manifests.{Refuses}
+use Rattle.suite_top.specs.Telling.{Telling, kept_of}
 use Rattle.suite_top.specs.Kept.{kept_outcome}
 use Rattle.suite_top.specs.Run.{start_line, world_ending, memory_run_ending, mode_outcome}
 use Rattle.suite_top.specs.Steps.{EndsFor, boot_ending}
@@ -109,14 +107,14 @@ pub boots_as : (rest : Rest) (starts : List StoredStart) (m : Manifest) (boots :
 boots_as rest starts m boots are is = ap (λ ss. boot rest (map start_line ss)) are ∙ ap (boot rest) (sym (lines_are starts)) ∙ is
 
 -- the machine's run as the definition has it
-pub ends_as : (machine : State) (kept : Option KeptItems) (telling : Telling) (mode : Mode) (quanta : List Quantum) (watches : List WatchLine) (dumps : List Dump) (headers : List (List ℕ)) (old new : Observed Told) (ending : Ending)
+pub ends_as : (machine : State) (telling : Telling) (mode : Mode) (quanta : List Quantum) (watches : List WatchLine) (dumps : List Dump) (headers : List (List ℕ)) (old new : Observed Told) (ending : Ending)
     → machine.mode ≡ mode → one_memory machine ≡ opening_in headers (world machine)
-    → (machine.mode ≡ Halt → Performs old new (kept_outcome kept (turns quanta (world machine)).world (world_ending telling quanta watches dumps (world machine))) ending)
-    → (machine.mode ≡ GoOn → Performs old new (kept_outcome kept (turns_in quanta (one_memory machine)).now.world (memory_run_ending telling quanta watches dumps (one_memory machine))) ending)
-    → Performs old new (mode_outcome kept telling mode quanta watches dumps headers (world machine)) ending
-ends_as machine kept telling Halt quanta watches dumps headers old new ending is memory halt go_on = halt is
-ends_as machine kept telling GoOn quanta watches dumps headers old new ending is memory halt go_on =
-    subst (λ (p : Physical). Performs old new (kept_outcome kept (turns_in quanta p).now.world (memory_run_ending telling quanta watches dumps p)) ending) memory (go_on is)
+    → (machine.mode ≡ Halt → Performs old new (kept_outcome (kept_of telling) (turns quanta (world machine)).world (world_ending telling quanta watches dumps (world machine))) ending)
+    → (machine.mode ≡ GoOn → Performs old new (kept_outcome (kept_of telling) (turns_in quanta (one_memory machine)).now.world (memory_run_ending telling quanta watches dumps (one_memory machine))) ending)
+    → Performs old new (mode_outcome telling mode quanta watches dumps headers (world machine)) ending
+ends_as machine telling Halt quanta watches dumps headers old new ending is memory halt go_on = halt is
+ends_as machine telling GoOn quanta watches dumps headers old new ending is memory halt go_on =
+    subst (λ (p : Physical). Performs old new (kept_outcome (kept_of telling) (turns_in quanta p).now.world (memory_run_ending telling quanta watches dumps p)) ending) memory (go_on is)
 
 pub machine_events : (machine : State) → (world machine).events ≡ machine.events
 unfolding world_of
@@ -127,16 +125,14 @@ unfolding world_of
 machine_kind machine = refl
 
 -- a machine that doesn't start
-refused_by : (fault : BootFault) (r : BootRefusal) (ending : Ending) → Boots (Err fault) (Err r)
-    → OrMemory (fault_ending (told_fault r)) ending → (IsMemory (told_fault r).fault → ending ≡ memory_ending) → OrMemory (boot_ending fault) ending
-refused_by fault refusal.Memory ending is ends memory = inr (memory tt)
-refused_by (bad_start number) (refusal.BadStart at) ending is ends memory = subst (λ n. OrMemory (boot_ending (bad_start n)) ending) is ends
-refused_by (args_too_big number) (refusal.E2big at) ending is ends memory = subst (λ n. OrMemory (boot_ending (args_too_big n)) ending) is ends
-refused_by (no_run number) (refusal.NoRun at) ending is ends memory = subst (λ n. OrMemory (boot_ending (no_run n)) ending) is ends
-refused_by fault r ending is ends memory = absurd is
+refused_by : (fault : BootFault) (r : BootRefusal) (ending : Ending) → Boots (Err fault) (Err r) → Refuses (told_refusal r) ending → OrMemory (boot_ending fault) ending
+refused_by fault refusal.Memory ending is ends = inr ends
+refused_by (bad_start number) (refusal.BadStart at) ending is ends = subst (λ n. OrMemory (boot_ending (bad_start n)) ending) is ends
+refused_by (args_too_big number) (refusal.E2big at) ending is ends = subst (λ n. OrMemory (boot_ending (args_too_big n)) ending) is ends
+refused_by (no_run number) (refusal.NoRun at) ending is ends = subst (λ n. OrMemory (boot_ending (no_run n)) ending) is ends
+refused_by fault r ending is ends = absurd is
 
-pub refuses_boot : (b : Result World BootFault) (r : BootRefusal) (ending : Ending) → Boots b (Err r)
-    → OrMemory (fault_ending (told_fault r)) ending → (IsMemory (told_fault r).fault → ending ≡ memory_ending) → EndsFor boot_ending b ending
-refuses_boot (Ok w) refusal.Memory ending is ends memory = memory tt
-refuses_boot (Ok w) r ending is ends memory = absurd is
-refuses_boot (Err fault) r ending is ends memory = refused_by fault r ending is ends memory
+pub refuses_boot : (b : Result World BootFault) (r : BootRefusal) (ending : Ending) → Boots b (Err r) → Refuses (told_refusal r) ending → EndsFor boot_ending b ending
+refuses_boot (Ok w) refusal.Memory ending is ends = ends
+refuses_boot (Ok w) r ending is ends = absurd is
+refuses_boot (Err fault) r ending is ends = refused_by fault r ending is ends

@@ -1,17 +1,14 @@
 -- The manifest of a demo.
-use Rattle.std.proofs.Common.{◌≡◌, ℕ, zero, suc, ◌+◌, ◌%◌, ◌^◌, ◌≤◌, ◌<◌, Bool, true, false, not, ◌&&◌, List, [], ◌∷◌, ◌++◌, length, map, None, refl, sym, ap, ◌∙◌, subst, arith, rules, add-one, length-append}
+use Rattle.std.proofs.Common.{◌≡◌, ℕ, zero, suc, ◌+◌, ◌%◌, ◌^◌, ◌≤◌, ◌<◌, Bool, true, false, not, ◌&&◌, List, [], ◌∷◌, ◌++◌, length, map, refl, sym, ap, ◌∙◌, subst, arith, rules, add-one, length-append}
 use Rattle.std.specs.Prelude.{◌==◌, decimal}
 use Rattle.std.specs.List.{AllByRecursion, list_all}
 use Rattle.std.proofs.lemmas.Bool.{ne_eqb}
 use Rattle.std.proofs.lemmas.Fmt.{decimal_by_steps}
 use Rattle.std.proofs.lemmas.List.{map-append}
-use Rattle.page_runs.specs.declared.place.Kind.{Kind}
-use Rattle.page_runs.specs.declared.place.Kind.TheVariants.{First}
 use Rattle.manifest_text.specs.Values.{Manifest}
 use Rattle.manifest_text.specs.Laws.{IsItem, HasClearPath, HasArgument, Reasonable}
 use Rattle.elf_maker.specs.Demo.{demo_file}
-use Rattle.region_watch.specs.declared.mode.Mode.TheVariants.{Halt}
-use Rattle.suite_top.specs.declared.telling.Telling.TheVariants.{Demo}
+use Rattle.suite_top.specs.Telling.{Demo}
 use Rattle.host_io.specs.Host.{Told}
 use Rattle.file_commands.specs.Ending.{Ending}
 use Rattle.file_commands.specs.Observed.{Observed}
@@ -105,10 +102,9 @@ as_many n m files manifest are =
     ∙ sym (ap (λ (x : Manifest). length x.items) manifest ∙ ap length (items_are n) ∙ length-each_of demo_item n)
 
 -- what was run is the demo
-pub is_demo : (n : ℕ) (kind : Kind) (m : Manifest) (files : List (List ℕ)) (old new : Observed Told) (ending : Ending) → kind ≡ First → m ≡ demo_manifest n → files ≡ each_of demo_file n
-    → Performs old new (files_outcome None (Demo n) Halt kind m files) ending → Performs old new (demo_run n) ending
+pub is_demo : (n : ℕ) (m : Manifest) (files : List (List ℕ)) (old new : Observed Told) (ending : Ending) → m ≡ demo_manifest n → files ≡ each_of demo_file n
+    → Performs old new (files_outcome (Demo n) m files) ending → Performs old new (demo_run n) ending
 unfolding demo_run
-is_demo n kind m files old new ending first manifest are ends =
-    subst (λ (fs : List (List ℕ)). Performs old new (files_outcome None (Demo n) Halt First (demo_manifest n) fs) ending) are
-    (subst (λ (x : Manifest). Performs old new (files_outcome None (Demo n) Halt First x files) ending) manifest
-    (subst (λ (k : Kind). Performs old new (files_outcome None (Demo n) Halt k m files) ending) first ends))
+is_demo n m files old new ending manifest are ends =
+    subst (λ (fs : List (List ℕ)). Performs old new (files_outcome (Demo n) (demo_manifest n) fs) ending) are
+    (subst (λ (x : Manifest). Performs old new (files_outcome (Demo n) x files) ending) manifest ends)

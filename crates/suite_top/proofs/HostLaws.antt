@@ -5,7 +5,6 @@ use Rattle.std.specs.FinMap.{insert}
 use Rattle.std.specs.Option.{option_and_then}
 use Rattle.std.proofs.lemmas.List.{append-nil}
 use Rattle.host_io.specs.Host.{Files, Told}
-use Rattle.page_runs.specs.declared.place.Kind.{Kind}
 use Rattle.file_commands.specs.Outcome.{Request, load, store, Outcome, Inputs, name_of}
 use Rattle.file_commands.specs.declared.command.Format.{Format}
 use Rattle.file_commands.specs.Arguments.{KeptItems, Invocation, convert, list, check, run, trace, romfs, unromfs, replay, demo, command_of}
@@ -13,10 +12,8 @@ use Rattle.file_commands.specs.OneFile.{with_found}
 use Rattle.file_commands.specs.Convert.{converted_outcome}
 use Rattle.file_commands.specs.Romfs.{romfs_outcome}
 use Rattle.file_commands.specs.Replay.{replay_outcome}
-use Rattle.region_watch.specs.declared.mode.Mode.{Mode}
-use Rattle.region_watch.specs.declared.mode.Mode.TheVariants.{Halt}
-use Rattle.suite_top.specs.declared.telling.Telling.{Telling}
-use Rattle.suite_top.specs.declared.telling.Telling.TheVariants.{Report, Trace}
+use Rattle.suite_top.specs.Telling.{Telling, Report, Trace, kept_of}
+use Rattle.suite_top.specs.Kept.{kept_requests}
 use Rattle.suite_top.specs.Run.{run_outcome}
 use Rattle.suite_top.specs.Result.{command_outcome}
 use Rattle.file_commands.specs.HostCourse.{HostCourse, complete, failed, out_of_memory, AreLoads, IsCourseOf, FaultsAfter, after_answer, after_answers, told_after}
@@ -88,9 +85,13 @@ HasStore stored (load name ∷ requests) = HasStore stored requests
 HasStore None (store name bytes ∷ requests) = ⊥
 HasStore (Some wanted) (store name bytes ∷ requests) = (name ≡ wanted) × (requests ≡ [])
 
-run_has : (kept : Option KeptItems) (manifest : List ℕ) (telling : Telling) (mode : Mode) (kind : Kind) (inputs : Inputs) → HasStore (option_map (λ k. k.file) kept) (run_outcome manifest kept telling mode kind inputs).requests
-run_has None = run_by (λ (o : Outcome). HasStore None o.requests) (λ tail. tt) None (λ telling shown w end. tt) (λ name o has. has) (λ name. tt)
-run_has (Some k) = run_by (λ (o : Outcome). HasStore (Some k.file) o.requests) (λ tail. tt) (Some k) (λ telling shown w end. (refl, refl)) (λ name o has. has) (λ name. tt)
+run_has : (telling : Telling) (kept : Option KeptItems) → kept_of telling ≡ kept → (manifest : List ℕ) (inputs : Inputs) → HasStore (option_map (λ k. k.file) kept) (run_outcome manifest telling inputs).requests
+run_has telling None is =
+    run_by (λ (o : Outcome). HasStore None o.requests) (λ tail. tt) telling
+    (λ shown w end. subst (λ (kept : Option KeptItems). HasStore None (kept_requests kept w)) (sym is) tt) (λ name o has. has) (λ name. tt)
+run_has telling (Some k) is =
+    run_by (λ (o : Outcome). HasStore (Some k.file) o.requests) (λ tail. tt) telling
+    (λ shown w end. subst (λ (kept : Option KeptItems). HasStore (Some k.file) (kept_requests kept w)) (sym is) (refl, refl)) (λ name o has. has) (λ name. tt)
 
 romfs_has : (manifest image : List ℕ) (inputs : Inputs) → HasStore (Some image) (romfs_outcome manifest image inputs).requests
 romfs_has manifest image inputs =
@@ -109,8 +110,8 @@ command_has None inputs = tt
 command_has (Some (convert elf flt stack)) inputs = behind_has flt stack (inputs 0 elf) (with_found elf (inputs 0 elf) (converted_outcome flt stack)).requests (requests_behind elf flt stack (inputs 0 elf))
 command_has (Some (list flt)) inputs = subst (HasStore None) (sym (list_requests flt inputs)) tt
 command_has (Some (check elf)) inputs = subst (HasStore None) (sym (check_requests elf inputs)) tt
-command_has (Some (run manifest log mode kind kept watch)) inputs = run_has kept manifest (Report log watch) mode kind inputs
-command_has (Some (trace manifest pid counted kind)) inputs = run_has None manifest (Trace pid counted) Halt kind inputs
+command_has (Some (run manifest options)) inputs = run_has (Report options) options.kept refl manifest inputs
+command_has (Some (trace manifest options)) inputs = run_has (Trace options) None refl manifest inputs
 command_has (Some (romfs manifest image)) inputs = romfs_has manifest image inputs
 command_has (Some (unromfs image)) inputs = subst (HasStore None) (sym (unromfs_requests image inputs)) tt
 command_has (Some (replay kind file items)) inputs = replay_has kind file items inputs

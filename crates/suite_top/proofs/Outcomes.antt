@@ -27,10 +27,7 @@ use Rattle.file_commands.specs.Unromfs.{read_ending, unmade_outcome, unromfs_out
 use Rattle.file_commands.specs.Texts.Images.{rom_tail, image_listing}
 use Rattle.machine_world.specs.World.{World}
 use Rattle.machine_world.specs.Turns.{End}
-use Rattle.region_watch.specs.declared.mode.Mode.TheVariants.{Halt}
-use Rattle.suite_top.specs.declared.telling.Telling.{Telling}
-use Rattle.suite_top.specs.declared.telling.Telling.TheVariants.{Report, Trace}
-use Rattle.suite_top.specs.Telling.{told_ending}
+use Rattle.suite_top.specs.Telling.{Telling, Report, Trace, told_ending}
 use Rattle.suite_top.specs.Result.{command_outcome, result_of}
 use Rattle.suite_top.specs.StatusLaws.{IsOneText, TextsAreApart, RefutedIsOfReplay, UsageIsExact}
 use Rattle.suite_top.proofs.RunOutcomes.{run_by, demo_by, told_status}
@@ -75,15 +72,15 @@ module _ (P : Ending → Type 0) (read : (name : List ℕ) → P (failure_ending
   other_than_run (romfs manifest image) inputs other refuted = romfs_by (λ (o : Outcome). P o.ending) (λ name o p. p) read refused image (λ bytes line. done line) manifest inputs
   other_than_run (replay kind file items) inputs other refuted =
       replay_by (λ (o : Outcome). P o.ending) (λ name o p. p) read refused done (refuted (kind, file, items, refl)) kind file items inputs
-  other_than_run (run manifest log mode kind kept watch) inputs other refuted = absurd other
-  other_than_run (trace manifest pid counted kind) inputs other refuted = absurd other
+  other_than_run (run manifest options) inputs other refuted = absurd other
+  other_than_run (trace manifest options) inputs other refuted = absurd other
   other_than_run (demo programs) inputs other refuted = absurd other
 
   module _ (told : (telling : Telling) (dumped : List ℕ) (w : World) (end : Option End) → P (told_ending telling dumped w end)) where
     pub invoked : (k : Invocation) (inputs : Inputs) → (IsReplay k → (text : List ℕ) → P (refuted_ending text)) → P (command_outcome (Some k) inputs).ending
-    invoked (run manifest log mode kind kept watch) inputs refuted =
-        run_by (λ (o : Outcome). P o.ending) refused kept told (λ name o p. p) read manifest (Report log watch) mode kind inputs
-    invoked (trace manifest pid counted kind) inputs refuted = run_by (λ (o : Outcome). P o.ending) refused None told (λ name o p. p) read manifest (Trace pid counted) Halt kind inputs
+    invoked (run manifest options) inputs refuted =
+        run_by (λ (o : Outcome). P o.ending) refused (Report options) (told (Report options)) (λ name o p. p) read manifest inputs
+    invoked (trace manifest options) inputs refuted = run_by (λ (o : Outcome). P o.ending) refused (Trace options) (told (Trace options)) (λ name o p. p) read manifest inputs
     invoked (demo programs) inputs refuted = demo_by (λ (o : Outcome). P o.ending) refused told programs
     invoked (convert elf flt stack) inputs refuted = other_than_run (convert elf flt stack) inputs tt refuted
     invoked (check elf) inputs refuted = other_than_run (check elf) inputs tt refuted

@@ -15,11 +15,10 @@ use Rattle.flat_machine.specs.State.{State, world, one_memory}
 use Rattle.flat_machine.specs.RunsIn.{IsHalting}
 use Rattle.flat_machine.specs.ByMode.{HaltRuns, GoOnRuns}
 use Rattle.flat_machine.specs.OwnBytes.{own_bytes, memory_bytes}
-use Rattle.suite_top.specs.declared.telling.Telling.{Telling}
 use Rattle.file_commands.specs.declared.answer.Answer.{Answer}
 use Rattle.file_commands.specs.Ending.{Ending}
 use Rattle.suite_top.specs.Report.{own_dumps, memory_dumps, shown_of, dumps_of}
-use Rattle.suite_top.specs.Telling.{told_ending, ending_behind, HasEndingBehind, IsTold}
+use Rattle.suite_top.specs.Telling.{Telling, kept_of, told_ending, ending_behind, HasEndingBehind, IsTold}
 use Rattle.host_io.specs.Host.{Told as Outside}
 use Rattle.file_commands.specs.declared.status.Status.TheVariants as status
 use Rattle.file_commands.specs.Arguments.{KeptItems}
@@ -116,10 +115,10 @@ keeps_with kept answer s ending w before after last is performs =
     subst (λ (e : Ending). Performs before after (kept_outcome kept w e) last) is.tells of_world
 
 -- and so is what is kept of the machine's run, by its mode
-pub keeps_all : (kept : Option KeptItems) (telling : Telling) (mode : Mode) (c : Course) (headers : List (List ℕ)) (old new : State) (answer : Answer) (before after : Observed Outside) (last : Ending)
+pub keeps_all : (telling : Telling) (mode : Mode) (c : Course) (headers : List (List ℕ)) (old new : State) (answer : Answer) (before after : Observed Outside) (last : Ending)
     → old.mode ≡ mode → one_memory old ≡ opening_in headers (world old) → TellsHalting telling c old new (Ok answer) → TellsGoingOn telling c old new (Ok answer)
-    → Performs before after (kept_outcome kept (world new) (ending_behind (world new).rest.console answer)) last → Performs before after (mode_outcome kept telling mode (turns_of c) c.watches.items c.dumps.items headers (world old)) last
-keeps_all kept telling mode c headers old new answer before after last is memory halt go_on performs =
-    ends_as old kept telling mode (turns_of c) c.watches.items c.dumps.items headers before after last is memory
-    (λ halts. keeps_with kept answer new _ _ before after last (halt halts) performs)
-    (λ goes. keeps_with kept answer new _ _ before after last (go_on goes) performs)
+    → Performs before after (kept_outcome (kept_of telling) (world new) (ending_behind (world new).rest.console answer)) last → Performs before after (mode_outcome telling mode (turns_of c) c.watches.items c.dumps.items headers (world old)) last
+keeps_all telling mode c headers old new answer before after last is memory halt go_on performs =
+    ends_as old telling mode (turns_of c) c.watches.items c.dumps.items headers before after last is memory
+    (λ halts. keeps_with (kept_of telling) answer new _ _ before after last (halt halts) performs)
+    (λ goes. keeps_with (kept_of telling) answer new _ _ before after last (go_on goes) performs)

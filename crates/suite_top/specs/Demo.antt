@@ -1,16 +1,14 @@
 -- The command `demo N`: the programs 1 to N of the demo run by turns in one memory, of which each takes two pages.
-use Rattle.std.specs.Prelude.{ℕ, zero, suc, List, [], ◌∷◌, ◌++◌, codes, decimal, None}
-use Rattle.page_runs.specs.declared.place.Kind.TheVariants.{First}
+use Rattle.std.specs.Prelude.{ℕ, zero, suc, List, [], ◌∷◌, ◌++◌, codes, decimal}
 use Rattle.quantum_sched.specs.declared.Quantum.{Quantum}
 use Rattle.manifest_text.specs.declared.manifest.ItemKind.TheVariants.{Elf}
 use Rattle.manifest_text.specs.Values.{Item, Start, Manifest}
 use Rattle.elf_maker.specs.Demo.{demo_file}
-use Rattle.suite_top.specs.declared.telling.Telling.TheVariants.{Demo}
+use Rattle.suite_top.specs.Telling.{Demo}
 use Rattle.file_commands.specs.Arguments.{default_stack}
 use Rattle.file_commands.specs.Ending.{Ending}
 use Rattle.file_commands.specs.Outcome.{Outcome, Inputs}
 use Rattle.file_commands.specs.Load.{at_once}
-use Rattle.region_watch.specs.declared.mode.Mode.TheVariants.{Halt}
 use Rattle.suite_top.specs.Run.{files_outcome}
 
 -- what is made of each of the numbers 1 to n, in their order
@@ -51,7 +49,7 @@ demo_manifest n = record {
 
 -- a run with these files, which takes the first free run that fits, and keeps no items
 unfoldable pub demo_run : (n : ℕ) → Outcome
-demo_run n = files_outcome None (Demo n) Halt First (demo_manifest n) (each_of demo_file n)
+demo_run n = files_outcome (Demo n) (demo_manifest n) (each_of demo_file n)
 
 -- what it ends with
 abbrev pub demo_ending : (n : ℕ) → Ending

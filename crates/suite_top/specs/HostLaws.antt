@@ -21,7 +21,7 @@ NothingIsAsked = (c : Call) → MeetsOutcome c → command_of c.arguments ≡ No
 -- the name of the one file that a command stores, if it stores one
 abbrev pub stores_of : Invocation → Option (List ℕ)
 stores_of (convert elf flt stack) = Some flt
-stores_of (run manifest log mode kind kept watch) = option_map (λ k. k.file) kept
+stores_of (run manifest options) = option_map (λ k. k.file) options.kept
 stores_of (romfs manifest image) = Some image
 stores_of other = None
 

@@ -9,8 +9,7 @@ use Rattle.file_commands.specs.Check.{check_outcome}
 use Rattle.file_commands.specs.Romfs.{romfs_outcome}
 use Rattle.file_commands.specs.Unromfs.{unromfs_outcome}
 use Rattle.file_commands.specs.Replay.{replay_outcome}
-use Rattle.region_watch.specs.declared.mode.Mode.TheVariants.{Halt}
-use Rattle.suite_top.specs.declared.telling.Telling.TheVariants.{Report, Trace}
+use Rattle.suite_top.specs.Telling.{Report, Trace}
 use Rattle.suite_top.specs.Run.{run_outcome}
 use Rattle.suite_top.specs.Demo.{demo_outcome}
 
@@ -19,8 +18,8 @@ command_outcome None inputs = record { requests = []; ending = usage_ending }
 command_outcome (Some (convert elf flt stack)) inputs = convert_outcome elf flt stack inputs
 command_outcome (Some (list flt)) inputs = list_outcome flt inputs
 command_outcome (Some (check elf)) inputs = check_outcome elf inputs
-command_outcome (Some (run manifest log mode kind kept watch)) inputs = run_outcome manifest kept (Report log watch) mode kind inputs
-command_outcome (Some (trace manifest pid counted kind)) inputs = run_outcome manifest None (Trace pid counted) Halt kind inputs
+command_outcome (Some (run manifest options)) inputs = run_outcome manifest (Report options) inputs
+command_outcome (Some (trace manifest options)) inputs = run_outcome manifest (Trace options) inputs
 command_outcome (Some (romfs manifest image)) inputs = romfs_outcome manifest image inputs
 command_outcome (Some (unromfs image)) inputs = unromfs_outcome image inputs
 command_outcome (Some (replay kind file items)) inputs = replay_outcome kind file items inputs

@@ -1,5 +1,5 @@
 -- The commands `run MANIFEST` and `trace MANIFEST`: the programs of a manifest run by turns in one memory.
-use Rattle.std.specs.Prelude.{ℕ, List, [], ◌++◌, map, Option, None, Result, Ok, Err}
+use Rattle.std.specs.Prelude.{ℕ, List, [], ◌++◌, map, None, Result, Ok, Err}
 use Rattle.page_runs.specs.declared.place.Kind.{Kind}
 use Rattle.quantum_sched.specs.declared.Quantum.{Quantum}
 use Rattle.manifest_text.specs.declared.manifest.Dump.{Dump}
@@ -17,17 +17,15 @@ use Rattle.flat_machine.specs.Hits.{hits, hits_in_memory}
 use Rattle.fd_tables.specs.Files.{nothing_open}
 use Rattle.run_setup.specs.declared.fault.LineFault.TheVariants as line
 use Rattle.run_setup.specs.Brought.{Brought, FaultAt, nothing_brought, all_brought}
-use Rattle.file_commands.specs.Arguments.{KeptItems}
 use Rattle.file_commands.specs.Texts.Refusals.{manifest_tail}
 use Rattle.file_commands.specs.Ending.{Ending, refused_ending}
 use Rattle.file_commands.specs.Outcome.{Outcome, Inputs}
 use Rattle.file_commands.specs.Load.{at_once, with_load}
 use Rattle.file_commands.specs.Items.{files_limit, with_items}
 use Rattle.file_commands.specs.Manifests.{manifest_limit, fault_ending}
-use Rattle.suite_top.specs.declared.telling.Telling.{Telling}
 use Rattle.suite_top.specs.Kept.{keep_of, kept_outcome}
 use Rattle.suite_top.specs.Report.{own_dumps, memory_dumps}
-use Rattle.suite_top.specs.Telling.{told_ending, watch_of}
+use Rattle.suite_top.specs.Telling.{Telling, mode_of, placement_of, kept_of, watch_of, told_ending}
 use Rattle.suite_top.specs.Watched.{watched_text}
 
 -- ---- the machine
@@ -85,32 +83,32 @@ stopped_world Halt quanta headers w = (turns quanta w).world
 stopped_world GoOn quanta headers w = (turns_in quanta (opening_in headers w)).now.world
 
 -- the items are stored that it keeps, if it keeps any
-abbrev pub mode_outcome : Option KeptItems → Telling → Mode → List Quantum → List WatchLine → List Dump → (headers : List (List ℕ)) → World → Outcome
-mode_outcome kept telling mode quanta watches dumps headers w =
-    kept_outcome kept (stopped_world mode quanta headers w) (mode_ending telling mode quanta watches dumps headers w)
+abbrev pub mode_outcome : Telling → Mode → List Quantum → List WatchLine → List Dump → (headers : List (List ℕ)) → World → Outcome
+mode_outcome telling mode quanta watches dumps headers w =
+    kept_outcome (kept_of telling) (stopped_world mode quanta headers w) (mode_ending telling mode quanta watches dumps headers w)
 
 -- ---- all in order
 
-abbrev pub booted_outcome : Option KeptItems → Telling → Mode → Manifest → (headers : List (List ℕ)) → Result World BootFault → Outcome
-booted_outcome kept telling mode m headers (Err first) = at_once (fault_ending (boot_fault first))
-booted_outcome kept telling mode m headers (Ok w) = mode_outcome kept telling mode (repeated m.repeat m.quanta) m.watches m.dumps headers w
+abbrev pub booted_outcome : Telling → Manifest → (headers : List (List ℕ)) → Result World BootFault → Outcome
+booted_outcome telling m headers (Err first) = at_once (fault_ending (boot_fault first))
+booted_outcome telling m headers (Ok w) = mode_outcome telling (mode_of telling) (repeated m.repeat m.quanta) m.watches m.dumps headers w
 
-abbrev pub brought_outcome : Option KeptItems → Telling → Mode → Kind → Manifest → Result Brought FaultAt → Outcome
-brought_outcome kept telling mode kind m (Err at) = at_once (fault_ending at)
-brought_outcome kept telling mode kind m (Ok b) = booted_outcome kept telling mode m b.headers (boot (opening (keep_of kept) kind m b) (map start_line m.starts))
+abbrev pub brought_outcome : Telling → Manifest → Result Brought FaultAt → Outcome
+brought_outcome telling m (Err at) = at_once (fault_ending at)
+brought_outcome telling m (Ok b) = booted_outcome telling m b.headers (boot (opening (keep_of (kept_of telling)) (placement_of telling) m b) (map start_line m.starts))
 
 -- where the item lines' files are there
-unfoldable pub files_outcome : Option KeptItems → Telling → Mode → Kind → Manifest → List (List ℕ) → Outcome
-files_outcome kept telling mode kind m files = brought_outcome kept telling mode kind m (all_brought m.items files nothing_brought)
+unfoldable pub files_outcome : Telling → Manifest → List (List ℕ) → Outcome
+files_outcome telling m files = brought_outcome telling m (all_brought m.items files nothing_brought)
 
 -- behind the manifest
-abbrev pub items_outcome : Option KeptItems → Telling → Mode → Kind → Manifest → Inputs → Outcome
-items_outcome kept telling mode kind m inputs = with_items files_limit m.items (files_outcome kept telling mode kind m) inputs
+abbrev pub items_outcome : Telling → Manifest → Inputs → Outcome
+items_outcome telling m inputs = with_items files_limit m.items (files_outcome telling m) inputs
 
-abbrev pub manifest_outcome : Option KeptItems → Telling → Mode → Kind → Result Manifest Fault → Inputs → Outcome
-manifest_outcome kept telling mode kind (Err first) inputs = at_once (refused_ending (manifest_tail first.line first.fault))
-manifest_outcome kept telling mode kind (Ok m) inputs = items_outcome kept telling mode kind m inputs
+abbrev pub manifest_outcome : Telling → Result Manifest Fault → Inputs → Outcome
+manifest_outcome telling (Err first) inputs = at_once (refused_ending (manifest_tail first.line first.fault))
+manifest_outcome telling (Ok m) inputs = items_outcome telling m inputs
 
 -- the manifest is load 0, and the files of its items are the loads behind it
-unfoldable pub run_outcome : (name : List ℕ) → Option KeptItems → Telling → Mode → Kind → Inputs → Outcome
-run_outcome name kept telling mode kind inputs = with_load manifest_limit None name (λ bytes. manifest_outcome kept telling mode kind (manifest_of bytes)) inputs
+unfoldable pub run_outcome : (name : List ℕ) → Telling → Inputs → Outcome
+run_outcome name telling inputs = with_load manifest_limit None name (λ bytes. manifest_outcome telling (manifest_of bytes)) inputs

@@ -8,13 +8,46 @@ use Rattle.machine_world.specs.Turns.{End, all_ended}
 use Rattle.flat_machine.specs.declared.run.End.{End as Told}
 use Rattle.flat_machine.specs.Runs.{Ends}
 use Rattle.watch_points.specs.declared.point.PointKind.{PointKind}
-use Rattle.suite_top.specs.declared.telling.Telling.{Telling}
-use Rattle.suite_top.specs.declared.telling.Telling.TheVariants as telling
+use Rattle.page_runs.specs.declared.place.Kind.{Kind}
+use Rattle.page_runs.specs.declared.place.Kind.TheVariants.{First}
+use Rattle.region_watch.specs.declared.mode.Mode.{Mode}
+use Rattle.region_watch.specs.declared.mode.Mode.TheVariants.{Halt}
+use Rattle.file_commands.specs.declared.command.TraceOptions.{TraceOptions}
+use Rattle.file_commands.specs.Arguments.{KeptItems, RunOptions, options_value}
+use Rattle.suite_top.specs.declared.telling.Telling.{Telling as Asked}
+use Rattle.suite_top.specs.declared.telling.Telling.TheVariants as asked
 use Rattle.file_commands.specs.Texts.{demo_line}
 use Rattle.file_commands.specs.declared.answer.Answer.{Answer}
 use Rattle.file_commands.specs.Ending.{Ending, done_ending}
 use Rattle.flat_machine.specs.State.{State, world}
 use Rattle.suite_top.specs.Report.{status_of_end, report_text, trace_report}
+
+-- what is asked of a run of programs, by its command
+pub data Telling : Type 0 where
+  Report : (options : RunOptions) → Telling
+  Trace : (options : TraceOptions) → Telling
+  Demo : (programs : ℕ) → Telling
+
+-- what becomes of it at its first stray access, where programs are placed, what is kept of it, and which hits are told
+abbrev pub mode_of : Telling → Mode
+mode_of (Report options) = options.mode
+mode_of (Trace options) = Halt
+mode_of (Demo programs) = Halt
+
+abbrev pub placement_of : Telling → Kind
+placement_of (Report options) = options.kind
+placement_of (Trace options) = options.kind
+placement_of (Demo programs) = First
+
+abbrev pub kept_of : Telling → Option KeptItems
+kept_of (Report options) = options.kept
+kept_of (Trace options) = None
+kept_of (Demo programs) = None
+
+abbrev pub watch_of : Telling → Option PointKind
+watch_of (Report options) = options.watch
+watch_of (Trace options) = None
+watch_of (Demo programs) = None
 
 -- the exit code of a process that ends, and 0 of any other note
 abbrev pub exit_code : Note → ℕ
@@ -45,15 +78,9 @@ demonstrated_ending n shown w end = reported_ending false shown w end
 
 -- in this world, with this text of its hits and dumps and this end
 abbrev pub told_ending : Telling → (shown : List ℕ) → World → Option End → Ending
-told_ending (telling.Report log watch) shown w end = reported_ending log shown w end
-told_ending (telling.Trace pid counted) shown w end = traced_ending pid counted shown w end
-told_ending (telling.Demo programs) shown w end = demonstrated_ending programs shown w end
-
--- which hits are told, if they are asked for
-abbrev pub watch_of : Telling → Option PointKind
-watch_of (telling.Report log watch) = watch
-watch_of (telling.Trace pid counted) = None
-watch_of (telling.Demo programs) = None
+told_ending (Report options) shown w end = reported_ending options.log shown w end
+told_ending (Trace options) shown w end = traced_ending options.pid options.counted shown w end
+told_ending (Demo programs) shown w end = demonstrated_ending programs shown w end
 
 -- the ending that an answer is behind this console
 abbrev pub ending_behind : (console : List ℕ) → Answer → Ending
@@ -75,3 +102,9 @@ IsTraced pid counted shown s told result = (end : Option End) → Ends end told 
 
 abbrev pub IsTold : Telling → (shown : List ℕ) → State → Told → Result Answer AllocError → Type 0
 IsTold telling shown s told result = (end : Option End) → Ends end told → HasEndingBehind (world s) (told_ending telling shown (world s) end) result
+
+-- what the program was asked for
+abbrev pub telling_value : Asked → Telling
+telling_value (asked.Report options) = Report (options_value options)
+telling_value (asked.Trace options) = Trace options
+telling_value (asked.Demo programs) = Demo programs

@@ -12,6 +12,7 @@ ghost use Rattle.file_commands.specs.Arguments.{least_programs, most_programs};
 ghost use Rattle.suite_top.specs.Points.{ArePoints};
 ghost use Rattle.suite_top.specs.Demo.{each_of, demo_path, demo_item, demo_start, demo_quanta, demo_manifest, demo_run};
 
+use crate::loaded::Loaded;
 use crate::points::Points;
 use crate::run::run_files;
 use crate::telling::Telling;
@@ -21,7 +22,6 @@ use host_io::Host;
 use manifest_text::{Item, ItemKind, Manifest, Start};
 use page_runs::{Chooser, Run};
 use quantum_sched::Quantum;
-use region_watch::Mode;
 use std::alloc::{AllocError, Global};
 use watch_points::Span;
 
@@ -54,11 +54,8 @@ where
     let files = demo_files(alloc, programs)?;
     let steps = run_files(
         alloc,
-        manifest,
-        files,
-        None,
+        Loaded { manifest, files },
         Telling::Demo { programs },
-        Mode::Halt,
         chooser,
         points,
         host,

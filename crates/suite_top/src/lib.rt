@@ -8,6 +8,7 @@ mod course;
 mod demo_run;
 mod kept;
 mod laws;
+mod loaded;
 mod placements;
 mod points;
 mod report;

@@ -5,7 +5,7 @@ ghost use Rattle.page_runs.specs.Choosers.{IsChooser, kind_of};
 ghost use Rattle.manifest_text.specs.declared.manifest.Start.{Start as StartItem};
 ghost use Rattle.manifest_text.specs.Manifest.{manifest_of};
 ghost use Rattle.manifest_text.specs.Values.{item_value, manifest_value, vec_texts};
-ghost use Rattle.manifest_text.specs.Laws.{AreWatches, IsItem, Reasonable};
+ghost use Rattle.manifest_text.specs.Laws.{IsItem};
 ghost use Rattle.machine_world.specs.Ages.{AreChanged, most_at_boot};
 ghost use Rattle.machine_world.specs.Boot.{boot};
 ghost use Rattle.kept_parts.specs.InMemory.{headers_of};
@@ -17,35 +17,33 @@ ghost use Rattle.file_commands.specs.Answer.{ending_of, settled_ending};
 ghost use Rattle.file_commands.specs.HostCourse.{Performs, PerformsCommand};
 ghost use Rattle.file_commands.specs.Manifests.{fault_ending};
 ghost use Rattle.run_setup.specs.Brought.{all_brought, nothing_brought};
-ghost use Rattle.run_setup.specs.Making.{fault_value, HasPaths, brought_value};
-ghost use Rattle.suite_top.specs.Refusing.{told_fault};
+ghost use Rattle.run_setup.specs.Making.{HasPaths, brought_value};
+ghost use Rattle.suite_top.specs.Refusing.{told_refusal};
 ghost use Rattle.suite_top.specs.Points.{ArePoints};
-ghost use Rattle.suite_top.specs.Kept.{kept_in};
 ghost use Rattle.suite_top.specs.Report.{dumps_of};
-ghost use Rattle.suite_top.specs.Telling.{watch_of};
+ghost use Rattle.suite_top.specs.Telling.{placement_of, watch_of, telling_value};
 ghost use Rattle.suite_top.specs.Watched.{found_text};
-ghost use Rattle.suite_top.specs.Running.{IsCounted, TellsHalting, TellsGoingOn};
+ghost use Rattle.suite_top.specs.Running.{IsLoaded, IsReady, TellsHalting, TellsGoingOn};
 ghost use Rattle.suite_top.specs.Run.{files_outcome, run_outcome};
 ghost use Rattle.suite_top.specs.Steps.{Gives, manifest_ending, boot_ending};
 
 use crate::course::Course;
 use crate::kept::{keep_items, keep_of};
+use crate::loaded::Loaded;
 use crate::points::Points;
 use crate::report::dumps_text;
-use crate::telling::{Telling, watch_of};
+use crate::telling::Telling;
 use crate::told::told;
 use crate::watched::{found_text, spans_of};
 use file_commands::texts::refusals::refused_manifest;
 use file_commands::{
-    Answer, Ended, KeptItems, MANIFEST_LIMIT, Status, load_items, load_limited, refuse_line,
-    settled,
+    Answer, Ended, MANIFEST_LIMIT, Status, load_items, load_limited, refuse_line, settled,
 };
 use flat_machine::{BootRefusal, Machine, Setup};
 use host_io::Host;
 use manifest_text::{Dump, Item, Manifest, ManifestRefusal};
 use page_runs::{Chooser, Run};
-use region_watch::Mode;
-use run_setup::{FaultAt, LineFault, RunFiles, bring};
+use run_setup::{LineFault, LineRefusal, RunFiles, bring};
 use std::alloc::{AllocError, Global};
 use watch_points::{Hits, PointKind, Span, WatchPoint, Watcher};
 
@@ -53,9 +51,7 @@ use watch_points::{Hits, PointKind, Span, WatchPoint, Watcher};
 pub fn run_file<H: Host, F, P, Q>(
     alloc: Global,
     manifest: &str,
-    kept: Option<KeptItems<'_>>,
-    telling: Telling,
-    mode: Mode,
+    telling: Telling<'_>,
     chooser: &Chooser<F>,
     points: &Points<P, Q>,
     host: &mut H,
@@ -66,9 +62,10 @@ where
     Q: Fn(&[Span], u32, u32) -> bool,
     requires chooser { IsChooser F.pre F.post chooser.now }
     requires points { ArePoints P.pre P.post Q.pre Q.post points.now }
-    ensures { PerformsCommand (observed H.told H.faults host.old) (observed H.told H.faults host.new) (run_outcome manifest.now (kept_in kept.entry) telling mode (kind_of chooser.now)) (ending_of result) }
+    requires kind { kind_of chooser.now ≡ placement_of (telling_value telling) }
+    ensures { PerformsCommand (observed H.told H.faults host.old) (observed H.told H.faults host.new) (run_outcome manifest.now (telling_value telling.entry)) (ending_of result) }
 {
-    let steps = run_manifest(alloc, manifest, kept, telling, mode, chooser, points, host);
+    let steps = run_manifest(alloc, manifest, telling, chooser, points, host);
     settled(steps)
 }
 
@@ -76,9 +73,7 @@ where
 fn run_manifest<H: Host, F, P, Q>(
     alloc: Global,
     manifest: &str,
-    kept: Option<KeptItems<'_>>,
-    telling: Telling,
-    mode: Mode,
+    telling: Telling<'_>,
     chooser: &Chooser<F>,
     points: &Points<P, Q>,
     host: &mut H,
@@ -89,13 +84,19 @@ where
     Q: Fn(&[Span], u32, u32) -> bool,
     requires chooser { IsChooser F.pre F.post chooser.now }
     requires points { ArePoints P.pre P.post Q.pre Q.post points.now }
-    ensures { PerformsCommand (observed H.told H.faults host.old) (observed H.told H.faults host.new) (run_outcome manifest.now (kept_in kept.entry) telling mode (kind_of chooser.now)) (settled_ending result) }
+    requires kind { kind_of chooser.now ≡ placement_of (telling_value telling) }
+    ensures { PerformsCommand (observed H.told H.faults host.old) (observed H.told H.faults host.new) (run_outcome manifest.now (telling_value telling.entry)) (settled_ending result) }
 {
     let bytes = load_limited(alloc, manifest, MANIFEST_LIMIT, None, host)?;
     let manifest = read_manifest(alloc, &bytes)?;
     let files = load_items(alloc, &manifest.items, host)?;
     run_files(
-        alloc, manifest, files, kept, telling, mode, chooser, points, host,
+        alloc,
+        Loaded { manifest, files },
+        telling,
+        chooser,
+        points,
+        host,
     )
 }
 
@@ -115,11 +116,8 @@ fn read_manifest(alloc: Global, bytes: &[u8]) -> Result<Manifest, Ended>
 /// The steps of a run behind all loads.
 pub fn run_files<H: Host, F, P, Q>(
     alloc: Global,
-    manifest: Manifest,
-    files: Vec<Vec<u8>>,
-    kept: Option<KeptItems<'_>>,
-    telling: Telling,
-    mode: Mode,
+    loaded: Loaded,
+    telling: Telling<'_>,
     chooser: &Chooser<F>,
     points: &Points<P, Q>,
     host: &mut H,
@@ -130,10 +128,12 @@ where
     Q: Fn(&[Span], u32, u32) -> bool,
     requires chooser { IsChooser F.pre F.post chooser.now }
     requires points { ArePoints P.pre P.post Q.pre Q.post points.now }
-    requires manifest { Reasonable (manifest_value manifest) }
-    requires files { length files.items ≡ length manifest.items.items }
-    ensures { Performs (observed H.told H.faults host.old) (observed H.told H.faults host.new) (files_outcome (kept_in kept.entry) telling mode (kind_of chooser.now) (manifest_value manifest) (vec_texts files.items)) (settled_ending result) }
+    requires kind { kind_of chooser.now ≡ placement_of (telling_value telling) }
+    requires loaded { IsLoaded loaded }
+    ensures { Performs (observed H.told H.faults host.old) (observed H.told H.faults host.new) (files_outcome (telling_value telling.entry) (manifest_value loaded.manifest) (vec_texts loaded.files.items)) (settled_ending result) }
 {
+    let Loaded { manifest, files } = loaded;
+    let kept = telling.kept();
     let files = bring_files(alloc, &manifest.items, files)?;
     let setup = Setup {
         pages: manifest.pages,
@@ -142,7 +142,7 @@ where
         programs: files.flats,
         starts: manifest.starts,
         stdin: files.stdin,
-        mode,
+        mode: telling.mode(),
         keep: keep_of(kept),
     };
     let course = Course {
@@ -166,7 +166,7 @@ fn bring_files(alloc: Global, items: &[Item], files: Vec<Vec<u8>>) -> Result<Run
 {
     match bring(alloc, items, files) {
         Ok(run) => Ok(run),
-        Err(at) => Err(refuse_line(alloc, &at)),
+        Err(refusal) => Err(refuse_line(alloc, &refusal)),
     }
 }
 
@@ -190,31 +190,28 @@ fn boot<F: Fn(&[Run], u32) -> Option<usize>>(
 {
     match Machine::boot(alloc, setup, chooser) {
         Ok(machine) => Ok(machine),
-        Err(refusal) => Err(refuse_line(alloc, &boot_fault(refusal))),
+        Err(refusal) => Err(refuse_line(alloc, &told_refusal(refusal))),
     }
 }
 
 /// Why the machine doesn't start.
-fn boot_fault(refusal: BootRefusal) -> FaultAt
-    ensures { fault_value result ≡ told_fault refusal }
+fn told_refusal(refusal: BootRefusal) -> LineRefusal
+    ensures { result ≡ told_refusal refusal }
 {
     match refusal {
-        BootRefusal::BadStart { line } => FaultAt {
+        BootRefusal::BadStart { line } => LineRefusal::At {
             line,
             fault: LineFault::BadStart,
         },
-        BootRefusal::E2big { line } => FaultAt {
+        BootRefusal::E2big { line } => LineRefusal::At {
             line,
             fault: LineFault::E2big,
         },
-        BootRefusal::NoRun { line } => FaultAt {
+        BootRefusal::NoRun { line } => LineRefusal::At {
             line,
             fault: LineFault::NoRun,
         },
-        BootRefusal::Memory => FaultAt {
-            line: 0,
-            fault: LineFault::Memory,
-        },
+        BootRefusal::Memory => LineRefusal::Memory,
     }
 }
 
@@ -223,7 +220,7 @@ fn run_machine<F, P, Q>(
     alloc: Global,
     machine: &mut Machine,
     course: &Course,
-    telling: Telling,
+    telling: Telling<'_>,
     chooser: &Chooser<F>,
     points: &Points<P, Q>,
 ) -> Result<Answer, AllocError>
@@ -233,14 +230,11 @@ where
     Q: Fn(&[Span], u32, u32) -> bool,
     requires chooser { IsChooser F.pre F.post chooser.now }
     requires points { ArePoints P.pre P.post Q.pre Q.post points.now }
-    requires kind { kind_of chooser.now ≡ machine.old.kind }
-    requires events { IsCounted course.now machine.old }
-    requires quiet { has_stray (world machine.old).notes ≡ false }
-    requires watches { AreWatches course.now.watches.items }
-    ensures halt { TellsHalting telling course.now machine.old machine.new result }
-    ensures go_on { TellsGoingOn telling course.now machine.old machine.new result }
+    requires ready { IsReady (kind_of chooser.now) course.now machine.old }
+    ensures halt { TellsHalting (telling_value telling.entry) course.now machine.old machine.new result }
+    ensures go_on { TellsGoingOn (telling_value telling.entry) course.now machine.old machine.new result }
 {
-    match watch_of(telling) {
+    match telling.watch() {
         None => run_unwatched(alloc, machine, course, telling, chooser),
         Some(PointKind::Touch) => run_watched(
             alloc,
@@ -266,16 +260,14 @@ fn run_unwatched<F: Fn(&[Run], u32) -> Option<usize>>(
     alloc: Global,
     machine: &mut Machine,
     course: &Course,
-    telling: Telling,
+    telling: Telling<'_>,
     chooser: &Chooser<F>,
 ) -> Result<Answer, AllocError>
     requires chooser { IsChooser F.pre F.post chooser.now }
-    requires kind { kind_of chooser.now ≡ machine.old.kind }
-    requires events { IsCounted course.now machine.old }
-    requires quiet { has_stray (world machine.old).notes ≡ false }
-    requires none { watch_of telling ≡ None }
-    ensures halt { TellsHalting telling course.now machine.old machine.new result }
-    ensures go_on { TellsGoingOn telling course.now machine.old machine.new result }
+    requires ready { IsReady (kind_of chooser.now) course.now machine.old }
+    requires none { watch_of (telling_value telling) ≡ None }
+    ensures halt { TellsHalting (telling_value telling.entry) course.now machine.old machine.new result }
+    ensures go_on { TellsGoingOn (telling_value telling.entry) course.now machine.old machine.new result }
 {
     let end = machine.run_repeated(&course.quanta, course.repeat, chooser)?;
     let shown = dumps_text(alloc, machine, &course.dumps)?;
@@ -287,7 +279,7 @@ fn run_watched<F, G>(
     alloc: Global,
     machine: &mut Machine,
     course: &Course,
-    telling: Telling,
+    telling: Telling<'_>,
     chooser: &Chooser<F>,
     point: &WatchPoint<G>,
 ) -> Result<Answer, AllocError>
@@ -296,13 +288,10 @@ where
     G: Fn(&[Span], u32, u32) -> bool,
     requires chooser { IsChooser F.pre F.post chooser.now }
     requires point { IsPoint G.pre G.post point.now }
-    requires kind { kind_of chooser.now ≡ machine.old.kind }
-    requires events { IsCounted course.now machine.old }
-    requires quiet { has_stray (world machine.old).notes ≡ false }
-    requires watches { AreWatches course.now.watches.items }
-    requires some { watch_of telling ≡ Some (kind_of_point point.now) }
-    ensures halt { TellsHalting telling course.now machine.old machine.new result }
-    ensures go_on { TellsGoingOn telling course.now machine.old machine.new result }
+    requires ready { IsReady (kind_of chooser.now) course.now machine.old }
+    requires some { watch_of (telling_value telling) ≡ Some (kind_of_point point.now) }
+    ensures halt { TellsHalting (telling_value telling.entry) course.now machine.old machine.new result }
+    ensures go_on { TellsGoingOn (telling_value telling.entry) course.now machine.old machine.new result }
 {
     let spans = spans_of(alloc, &course.watches)?;
     let mut hits = Hits::new(alloc)?;

@@ -4,7 +4,7 @@ ghost use Rattle.call_log.specs.Values.{note_value};
 ghost use Rattle.machine_world.specs.World.{World};
 ghost use Rattle.flat_machine.specs.State.{world};
 ghost use Rattle.file_commands.specs.Ending.{done_ending};
-ghost use Rattle.suite_top.specs.Telling.{exit_code, demo_text, HasEndingBehind, EndsWith, IsReported, IsTraced, IsTold};
+ghost use Rattle.suite_top.specs.Telling.{exit_code, demo_text, HasEndingBehind, EndsWith, IsReported, IsTraced, IsTold, telling_value};
 
 use crate::report::{report, status_of, trace_report};
 use crate::telling::Telling;
@@ -18,15 +18,15 @@ use std::alloc::{AllocError, Global};
 pub fn told(
     alloc: Global,
     machine: &Machine,
-    telling: Telling,
+    telling: Telling<'_>,
     shown: &str,
     end: End,
 ) -> Result<Answer, AllocError>
-    ensures { IsTold telling shown.now machine.now end result }
+    ensures { IsTold (telling_value telling.entry) shown.now machine.now end result }
 {
     match telling {
-        Telling::Report { log, .. } => reported(alloc, machine, log, shown, end),
-        Telling::Trace { pid, counted } => traced(alloc, machine, pid, counted, shown, end),
+        Telling::Report(options) => reported(alloc, machine, options.log, shown, end),
+        Telling::Trace(options) => traced(alloc, machine, options.pid, options.counted, shown, end),
         Telling::Demo { programs } => match end {
             End::AllEnded => demonstrated(alloc, machine, programs),
             End::Stuck | End::Stray(_) | End::OutOfQuanta | End::LogFull => {

@@ -6,7 +6,7 @@ ghost use Rattle.suite_top.specs.Points.{ArePoints};
 ghost use Rattle.file_commands.specs.Observed.{observed, observed_sink};
 ghost use Rattle.file_commands.specs.Answer.{ending_of};
 ghost use Rattle.suite_top.specs.Result.{result_of};
-ghost use Rattle.suite_top.specs.Kept.{kept_in};
+ghost use Rattle.suite_top.specs.Telling.{telling_value};
 ghost use Rattle.suite_top.specs.Run.{run_outcome};
 ghost use Rattle.file_commands.specs.HostCourse.{PerformsCommand};
 ghost use Rattle.suite_top.specs.Call.{MeetsResult};
@@ -17,12 +17,11 @@ use crate::points::Points;
 use crate::run::run_file;
 use crate::telling::Telling;
 use file_commands::{
-    Answer, Command, KeptItems, Status, check_file, convert_file, deliver, list_file,
-    read_arguments, replay_file, romfs_file, texts, unromfs_file,
+    Answer, Command, Status, check_file, convert_file, deliver, list_file, read_arguments,
+    replay_file, romfs_file, texts, unromfs_file,
 };
 use host_io::{Host, Sink};
 use page_runs::{Kind, Run};
-use region_watch::Mode;
 use std::alloc::{AllocError, Global};
 use watch_points::Span;
 
@@ -30,10 +29,7 @@ use watch_points::Span;
 fn run_placed<H: Host, A, B, C, P, Q>(
     alloc: Global,
     manifest: &str,
-    kept: Option<KeptItems<'_>>,
-    telling: Telling,
-    mode: Mode,
-    kind: Kind,
+    telling: Telling<'_>,
     host: &mut H,
     place: &Placements<A, B, C>,
     points: &Points<P, Q>,
@@ -46,39 +42,12 @@ where
     Q: Fn(&[Span], u32, u32) -> bool,
     requires place { ArePlacements A.pre A.post B.pre B.post C.pre C.post place.now }
     requires points { ArePoints P.pre P.post Q.pre Q.post points.now }
-    ensures { PerformsCommand (observed H.told H.faults host.old) (observed H.told H.faults host.new) (run_outcome manifest.now (kept_in kept.entry) telling mode kind) (ending_of result) }
+    ensures { PerformsCommand (observed H.told H.faults host.old) (observed H.told H.faults host.new) (run_outcome manifest.now (telling_value telling.entry)) (ending_of result) }
 {
-    match kind {
-        Kind::First => run_file(
-            alloc,
-            manifest,
-            kept,
-            telling,
-            mode,
-            &place.first,
-            points,
-            host,
-        ),
-        Kind::Best => run_file(
-            alloc,
-            manifest,
-            kept,
-            telling,
-            mode,
-            &place.best,
-            points,
-            host,
-        ),
-        Kind::Last => run_file(
-            alloc,
-            manifest,
-            kept,
-            telling,
-            mode,
-            &place.last,
-            points,
-            host,
-        ),
+    match telling.kind() {
+        Kind::First => run_file(alloc, manifest, telling, &place.first, points, host),
+        Kind::Best => run_file(alloc, manifest, telling, &place.best, points, host),
+        Kind::Last => run_file(alloc, manifest, telling, &place.last, points, host),
     }
 }
 
@@ -103,42 +72,22 @@ where
         Some(Command::Convert { elf, flt, stack }) => convert_file(alloc, elf, flt, stack, host),
         Some(Command::List { flt }) => list_file(alloc, flt, host),
         Some(Command::Check { elf }) => check_file(alloc, elf, host),
-        Some(
-            Command::Run {
-                manifest,
-                log,
-                mode,
-                kind,
-                kept,
-                watch,
-            },
-        ) => {
-            let telling = Telling::Report { log, watch };
-            run_placed(
-                alloc, manifest, kept, telling, mode, kind, host, place, points,
-            )
-        }
-        Some(
-            Command::Trace {
-                manifest,
-                pid,
-                counted,
-                kind,
-            },
-        ) => {
-            let telling = Telling::Trace { pid, counted };
-            run_placed(
-                alloc,
-                manifest,
-                None,
-                telling,
-                Mode::Halt,
-                kind,
-                host,
-                place,
-                points,
-            )
-        }
+        Some(Command::Run { manifest, options }) => run_placed(
+            alloc,
+            manifest,
+            Telling::Report(options),
+            host,
+            place,
+            points,
+        ),
+        Some(Command::Trace { manifest, options }) => run_placed(
+            alloc,
+            manifest,
+            Telling::Trace(options),
+            host,
+            place,
+            points,
+        ),
         Some(Command::Romfs { manifest, image }) => romfs_file(alloc, manifest, image, host),
         Some(Command::Unromfs { image }) => unromfs_file(alloc, image, host),
         Some(

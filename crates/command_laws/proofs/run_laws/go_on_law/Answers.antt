@@ -1,5 +1,5 @@
 -- By the law that a run which goes on is that of private spaces up to its first stray access.
-use Rattle.std.proofs.Common.{◌≡◌, ◌≢◌, ℕ, Bool, false, List, ◌++◌, map, Option, Some, None, refl, sym, ap, subst, ◌∙◌}
+use Rattle.std.proofs.Common.{◌≡◌, ◌≢◌, ℕ, false, List, ◌++◌, map, Option, Some, None, refl, sym, ap, subst, ◌∙◌}
 use Rattle.page_runs.specs.declared.place.Kind.{Kind}
 use Rattle.byte_words.specs.declared.access.Access.{Access}
 use Rattle.machine_world.specs.Turns.{stray_at}
@@ -10,12 +10,13 @@ use Rattle.go_on_laws.specs.Laws.{GoesAlike}
 use Rattle.go_on_laws.proofs.Boots.{boots_go_on, boots_note_no_stray}
 use Rattle.go_on_laws.proofs.Walks.{runs_go_on}
 use Rattle.watch_points.specs.declared.hits.Hit.{Hit}
-use Rattle.watch_points.specs.declared.point.PointKind.{PointKind}
 use Rattle.watch_points.specs.Points.{most_hits, none_found, with_hits}
 use Rattle.flat_machine.specs.Runs.{repeated}
 use Rattle.suite_top.specs.Report.{own_dumps, memory_dumps, report_text, status_of_end}
 use Rattle.suite_top.specs.Run.{start_line, opening}
 use Rattle.suite_top.specs.Watched.{span_of, found_text}
+use Rattle.watch_points.specs.declared.point.PointKind.{PointKind}
+use Rattle.file_commands.specs.Arguments.{RunOptions}
 use Rattle.file_commands.specs.Outcome.{Inputs}
 use Rattle.command_laws.specs.RunLaws.{Opens}
 use Rattle.command_laws.specs.Beside.{halting, going_on, halting_ending, halting_hits, going_on_hits, ReportsAlike}
@@ -46,11 +47,15 @@ module _ {inputs : Inputs} {name : List ℕ} {keep : ℕ} {kind : Kind} (o : Ope
   goes_alike : GoesAlike (halting o).world (going_on o) (halting o).end
   goes_alike = runs_go_on (repeated o.manifest.repeat o.manifest.quanta) o.booted.world one (sound (reasonable o) o.booted) stands unstrayed
 
-  same_hits : (log : Bool) (watch : Option PointKind) → ((pid : ℕ) (access : Access) → (halting o).end ≢ Some (stray_at pid access)) → halting_hits log watch o ≡ going_on_hits log watch o
-  same_hits log None never = refl
-  same_hits log (Some point) never =
+  same_hits_of : (options : RunOptions) (watch : Option PointKind) → ((pid : ℕ) (access : Access) → (halting o).end ≢ Some (stray_at pid access))
+      → halting_hits (record options { watch = watch }) o ≡ going_on_hits (record options { watch = watch }) o
+  same_hits_of options None never = refl
+  same_hits_of options (Some point) never =
       ap (λ (hits : List Hit). found_text (with_hits (none_found most_hits) hits))
       (hits_alike point (map span_of o.manifest.watches) (repeated o.manifest.repeat o.manifest.quanta) o.booted.world one (sound (reasonable o) o.booted) stands unstrayed never)
+
+  same_hits : (options : RunOptions) → ((pid : ℕ) (access : Access) → (halting o).end ≢ Some (stray_at pid access)) → halting_hits options o ≡ going_on_hits options o
+  same_hits options never = same_hits_of options options.watch never
 
   same_programs : (going_on o).now.world.rest.programs ≡ (halting o).world.rest.programs
   unfolding opening_in
@@ -63,7 +68,7 @@ pub returns-clause-worlds : goal.returns-clause-worlds
 returns-clause-worlds c inputs name keep kind o = goes_on_well (halting o) (going_on o) (goes_alike o)
 
 pub returns-clause-texts : goal.returns-clause-texts
-returns-clause-texts c inputs name kind log watch o = record {
+returns-clause-texts c inputs name options o = record {
   alike = λ never.
       let ends = ends_alike (halting o) (going_on o) (goes_alike o) never in
       record {
@@ -71,19 +76,19 @@ returns-clause-texts c inputs name kind log watch o = record {
         out = ap (λ w. w.rest.console) ends.stands.world;
         report =
             subst
-            (λ (hits : List ℕ). ReportsAlike (halting o).world (going_on o).now (halting_hits log watch o) o.manifest.dumps (halting_ending log watch o).report
-            (report_text log (hits ++ memory_dumps (going_on o).now o.manifest.dumps) (going_on o).now.world (going_on o).end))
-            (same_hits o log watch never) (reports_alike log (halting_hits log watch o) o.manifest.dumps (halting o) (going_on o) ends);
+            (λ (hits : List ℕ). ReportsAlike (halting o).world (going_on o).now (halting_hits options o) o.manifest.dumps (halting_ending options o).report
+            (report_text options.log (hits ++ memory_dumps (going_on o).now o.manifest.dumps) (going_on o).now.world (going_on o).end))
+            (same_hits o options never) (reports_alike options.log (halting_hits options o) o.manifest.dumps (halting o) (going_on o) ends);
       };
   past = λ pid access is.
       let past = goes_past (halting o) (going_on o) (goes_alike o) pid access is in
       let added = past.adds in
       record {
         out = added.1;
-        halts = report_begins log (halting_hits log watch o ++ own_dumps (halting o).world o.manifest.dumps) (halting o).world (halting o).end;
+        halts = report_begins options.log (halting_hits options o ++ own_dumps (halting o).world o.manifest.dumps) (halting o).world (halting o).end;
         goes_on =
-            begins_later log (halting o).world (going_on o).now.world (same_programs o) added.0.0 added.0.1 _
-            (report_begins log (going_on_hits log watch o ++ memory_dumps (going_on o).now o.manifest.dumps) (going_on o).now.world (going_on o).end);
+            begins_later options.log (halting o).world (going_on o).now.world (same_programs o) added.0.0 added.0.1 _
+            (report_begins options.log (going_on_hits options o ++ memory_dumps (going_on o).now o.manifest.dumps) (going_on o).now.world (going_on o).end);
       };
 }
 

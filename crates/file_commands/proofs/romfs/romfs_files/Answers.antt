@@ -6,7 +6,7 @@ pub returns-in-Ok : goal.returns-in-Ok
 returns-in-Ok g c = makes_tree _ _ _ _ _ _ _ c.in-Ok.ensures.brought c.store_tree.ensures
 
 pub returns-in-Err : goal.returns-in-Err
-returns-in-Err g c = rw c.answer.ensures (refuses_tree _ _ _ _ _ _ c.in-Err.ensures.brought c.refuse_line.ensures.ending c.refuse_line.ensures.memory)
+returns-in-Err g c = rw c.answer.ensures (refuses_tree _ _ _ _ _ c.in-Err.refusal c.in-Err.ensures.brought c.refuse_line.ensures)
 
 pub store_tree-requires-clause-names : goal.store_tree-requires-clause-names
 store_tree-requires-clause-names g c = c.in-Ok.ensures.names c.requires.paths

@@ -28,8 +28,9 @@ returns-in-Err-add-clause-brought c =
     let all = pairs c.into_iter-item-iterator.result c.zip-item-items.result from c.args.items.now c.args.files.items (ap (λ s. s.rest.now) c.zip-item-items.ensures.first ∙ c.iter.ensures.rest)
     c.zip-item-items.ensures.second.0 (c.zip-item-items.ensures.second.1 ∙ search rules) in
     let at = pair_at c.args.items.now c.args.files.items all c.loop-item.yielded c.loop-item.item-iterator c.loop-item.yielded_by c.next.result c.next.new.self c.in-Some.item c.in-Some.file c.in-Some.is c.next.ensures.steps in
-    stops_at (map item_value c.args.items.now) (vec_texts c.args.files.items) c.loop-item.run (length c.loop-item.yielded) c.loop-item.invariant (item_value c.in-Some.item.now) c.in-Some.file.items
-    (opened item_value _ _ _ at.first_below at.first) (opened (λ v. v.items) _ _ _ at.second_below at.second) c.in-Err-add.fault c.in-Err-add.ensures
+    rw c.refusal_at.ensures
+    (stops_at (map item_value c.args.items.now) (vec_texts c.args.files.items) c.loop-item.run (length c.loop-item.yielded) c.loop-item.invariant (item_value c.in-Some.item.now) c.in-Some.file.items
+    (opened item_value _ _ _ at.first_below at.first) (opened (λ v. v.items) _ _ _ at.second_below at.second) c.in-Err-add.fault c.in-Err-add.ensures)
 
 pub loop-item-preserved : goal.loop-item-preserved
 loop-item-preserved c =

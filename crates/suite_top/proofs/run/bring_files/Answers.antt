@@ -3,4 +3,4 @@ use Rattle.suite_top.proofs.RunEndings.{refuses_line}
 use Rattle.suite_top.proofs.run.bring_files.Goals as goal
 
 pub returns-in-Err-clause-brought : goal.returns-in-Err-clause-brought
-returns-in-Err-clause-brought c = refuses_line _ _ _ c.in-Err.ensures.brought c.refuse_line.ensures.ending c.refuse_line.ensures.memory
+returns-in-Err-clause-brought c = refuses_line _ c.in-Err.refusal _ c.in-Err.ensures.brought c.refuse_line.ensures

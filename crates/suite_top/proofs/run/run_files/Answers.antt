@@ -2,7 +2,6 @@
 use Rattle.std.proofs.Common.{refl, sym, ◌∙◌, arith}
 use Rattle.std.proofs.lemmas.List.{length-map}
 use Rattle.std.proofs.lemmas.Result.{err_from_is_err_and}
-use Rattle.page_runs.specs.Choosers.{kind_of}
 use Rattle.manifest_text.specs.declared.manifest.Manifest.{Manifest}
 use Rattle.manifest_text.specs.Values.{start_value, manifest_value, vec_texts}
 use Rattle.manifest_text.specs.Laws.{HasArgument}
@@ -10,7 +9,8 @@ use Rattle.run_setup.specs.Making.{brought_value}
 use Rattle.run_setup.proofs.Opened.{each_got}
 use Rattle.flat_machine.specs.State.{world}
 use Rattle.suite_top.specs.declared.course.Course.{Course}
-use Rattle.suite_top.specs.Kept.{keep_of, kept_in}
+use Rattle.suite_top.specs.Kept.{keep_of}
+use Rattle.suite_top.specs.Telling.{mode_of, placement_of, kept_of, telling_value}
 use Rattle.suite_top.specs.Run.{opening}
 use Rattle.suite_top.proofs.Booted.{no_event_yet, kind_stays, events_fit, machine_events, machine_kind, boots_as}
 use Rattle.suite_top.proofs.RunEndings.{out_of_memory, refuses_files, refuses_start, behind_start}
@@ -22,43 +22,42 @@ course_of m = record { quanta = m.quanta; repeat = m.repeat; watches = m.watches
 
 pub boot-requires-clause-args : goal.boot-requires-clause-args
 boot-requires-clause-args g c i s is =
-    rw (← length-map s.args.items (λ v. v.items)) (each_got HasArgument start_value c.args.manifest.starts.items i s is c.requires.manifest.each_start)
+    rw (← length-map s.args.items (λ v. v.items)) (each_got HasArgument start_value c.args.loaded.manifest.starts.items i s is c.requires.loaded.manifest.each_start)
 
 pub boot-requires-clause-changes : goal.boot-requires-clause-changes
 boot-requires-clause-changes g c = λ id n is. omega (arith, c.in_ok-files.ensures.unchanged id n is)
 
-pub run_machine-requires-clause-kind : goal.run_machine-requires-clause-kind
-run_machine-requires-clause-kind g c = sym (kind_stays _ _ _ c.in_ok-machine.ensures.world) ∙ machine_kind c.in_ok-machine.machine
-
-pub run_machine-requires-clause-events : goal.run_machine-requires-clause-events
-run_machine-requires-clause-events g c =
-    events_fit (manifest_value c.args.manifest) c.requires.manifest _ (sym (machine_events c.in_ok-machine.machine) ∙ no_event_yet _ _ _ c.in_ok-machine.ensures.world)
-
-pub run_machine-requires-clause-watches : goal.run_machine-requires-clause-watches
-run_machine-requires-clause-watches g c = c.requires.manifest.each_watch
+pub run_machine-requires-clause-ready : goal.run_machine-requires-clause-ready
+run_machine-requires-clause-ready g c = record {
+  kind = sym (kind_stays _ _ _ c.in_ok-machine.ensures.world) ∙ machine_kind c.in_ok-machine.machine;
+  events =
+      events_fit (manifest_value c.args.loaded.manifest) c.requires.loaded.manifest _
+      (sym (machine_events c.in_ok-machine.machine) ∙ no_event_yet _ _ _ c.in_ok-machine.ensures.world);
+  quiet = c.in_ok-machine.ensures.quiet;
+  watches = c.requires.loaded.manifest.each_watch;
+}
 
 pub keep_items-requires : goal.keep_items-requires
-keep_items-requires g c = is_no_failed_load c.args.telling (course_of c.args.manifest) c.in_ok-machine.machine c.run_machine.new.machine c.in_ok-answer.answer c.in_ok-answer.ensures.halt c.in_ok-answer.ensures.go_on
+keep_items-requires g c = is_no_failed_load (telling_value c.args.telling) (course_of c.args.loaded.manifest) c.in_ok-machine.machine c.run_machine.new.machine c.in_ok-answer.answer c.in_ok-answer.ensures.halt c.in_ok-answer.ensures.go_on
 
 pub returns-in_err-files : goal.returns-in_err-files
 returns-in_err-files g c =
     let p = err_from_is_err_and c.from_residual.result c.from_residual.ensures.1 in
     let ends = rw c.deref.ensures.value at c.in_err-files.ensures.brought in
     rw (p.1, p.2)
-    (refuses_files (kept_in c.args.kept) c.args.telling c.args.mode (kind_of c.args.chooser.now) (manifest_value c.args.manifest) (vec_texts c.args.files.items) _ _ ends)
+    (refuses_files (telling_value c.args.telling) (manifest_value c.args.loaded.manifest) (vec_texts c.args.loaded.files.items) _ _ ends)
 
 pub returns-in_err-machine : goal.returns-in_err-machine
 returns-in_err-machine g c =
     let p = err_from_is_err_and c.from_residual-in_err-machine.result c.from_residual-in_err-machine.ensures.1 in
-    let m = manifest_value c.args.manifest in
+    let m = manifest_value c.args.loaded.manifest in
     let b = brought_value c.in_ok-files.files in
-    let kept = kept_in c.args.kept in
-    let kind = kind_of c.args.chooser.now in
+    let telling = telling_value c.args.telling in
     let brings = rw c.deref.ensures.value at c.in_ok-files.ensures.brought in
-    let same = boots_as (opening (keep_of kept) kind m b) c.args.manifest.starts.items m _ refl refl in
-    let ends = rw c.keep_of.ensures at c.in_err-machine.ensures.world in
+    let same = boots_as (opening (keep_of (kept_of telling)) (placement_of telling) m b) c.args.loaded.manifest.starts.items m _ refl refl in
+    let ends = rw (c.keep_of.ensures, c.kept.ensures, c.requires.kind) at c.in_err-machine.ensures.world in
     rw (p.1, p.2)
-    (refuses_start kept c.args.telling c.args.mode kind m (vec_texts c.args.files.items) b brings _ _ (rw same ends))
+    (refuses_start telling m (vec_texts c.args.loaded.files.items) b brings _ _ (rw same ends))
 
 pub returns-in_err-answer : goal.returns-in_err-answer
 returns-in_err-answer g c =
@@ -68,27 +67,25 @@ returns-in_err-answer g c =
 pub returns-in_err-keep_items : goal.returns-in_err-keep_items
 returns-in_err-keep_items g c =
     let p = err_from_is_err_and c.from_residual-in_err-keep_items.result c.from_residual-in_err-keep_items.ensures.1 in
-    let m = manifest_value c.args.manifest in
+    let m = manifest_value c.args.loaded.manifest in
     let b = brought_value c.in_ok-files.files in
-    let kept = kept_in c.args.kept in
-    let kind = kind_of c.args.chooser.now in
+    let telling = telling_value c.args.telling in
     let brings = rw c.deref.ensures.value at c.in_ok-files.ensures.brought in
-    let boots = rw c.keep_of.ensures at c.in_ok-machine.ensures.world in
-    let starts = boots_as (opening (keep_of kept) kind m b) c.args.manifest.starts.items m _ refl boots in
+    let boots = rw (c.keep_of.ensures, c.kept.ensures, c.requires.kind) at c.in_ok-machine.ensures.world in
+    let starts = boots_as (opening (keep_of (kept_of telling)) (placement_of telling) m b) c.args.loaded.manifest.starts.items m _ refl boots in
     rw (p.1, p.2)
-    (behind_start kept c.args.telling c.args.mode kind m (vec_texts c.args.files.items) b brings _ _ (world c.in_ok-machine.machine) _ starts
-    (keeps_all kept c.args.telling c.args.mode (course_of c.args.manifest) b.headers c.in_ok-machine.machine c.run_machine.new.machine c.in_ok-answer.answer _ _ _
-    c.in_ok-machine.ensures.mode c.in_ok-machine.ensures.memory c.in_ok-answer.ensures.halt c.in_ok-answer.ensures.go_on c.in_err-keep_items.ensures))
+    (behind_start telling m (vec_texts c.args.loaded.files.items) b brings _ _ (world c.in_ok-machine.machine) _ starts
+    (keeps_all telling (mode_of telling) (course_of c.args.loaded.manifest) b.headers c.in_ok-machine.machine c.run_machine.new.machine c.in_ok-answer.answer _ _ _
+    (c.in_ok-machine.ensures.mode ∙ c.mode.ensures) c.in_ok-machine.ensures.memory c.in_ok-answer.ensures.halt c.in_ok-answer.ensures.go_on c.in_err-keep_items.ensures))
 
 pub returns : goal.returns
 returns g c =
-    let m = manifest_value c.args.manifest in
+    let m = manifest_value c.args.loaded.manifest in
     let b = brought_value c.in_ok-files.files in
-    let kept = kept_in c.args.kept in
-    let kind = kind_of c.args.chooser.now in
+    let telling = telling_value c.args.telling in
     let brings = rw c.deref.ensures.value at c.in_ok-files.ensures.brought in
-    let boots = rw c.keep_of.ensures at c.in_ok-machine.ensures.world in
-    let starts = boots_as (opening (keep_of kept) kind m b) c.args.manifest.starts.items m _ refl boots in
-    behind_start kept c.args.telling c.args.mode kind m (vec_texts c.args.files.items) b brings _ _ (world c.in_ok-machine.machine) _ starts
-    (keeps_all kept c.args.telling c.args.mode (course_of c.args.manifest) b.headers c.in_ok-machine.machine c.run_machine.new.machine c.in_ok-answer.answer _ _ _
-    c.in_ok-machine.ensures.mode c.in_ok-machine.ensures.memory c.in_ok-answer.ensures.halt c.in_ok-answer.ensures.go_on c.in_ok-keep_items.ensures)
+    let boots = rw (c.keep_of.ensures, c.kept.ensures, c.requires.kind) at c.in_ok-machine.ensures.world in
+    let starts = boots_as (opening (keep_of (kept_of telling)) (placement_of telling) m b) c.args.loaded.manifest.starts.items m _ refl boots in
+    behind_start telling m (vec_texts c.args.loaded.files.items) b brings _ _ (world c.in_ok-machine.machine) _ starts
+    (keeps_all telling (mode_of telling) (course_of c.args.loaded.manifest) b.headers c.in_ok-machine.machine c.run_machine.new.machine c.in_ok-answer.answer _ _ _
+    (c.in_ok-machine.ensures.mode ∙ c.mode.ensures) c.in_ok-machine.ensures.memory c.in_ok-answer.ensures.halt c.in_ok-answer.ensures.go_on c.in_ok-keep_items.ensures)

@@ -1,48 +1,47 @@
 -- What is there goes on behind the loads, and what isn't ends the run.
 use Rattle.std.proofs.lemmas.Result.{err_from_is_err_and}
-use Rattle.page_runs.specs.Choosers.{kind_of}
 use Rattle.manifest_text.specs.Values.{manifest_value}
 use Rattle.manifest_text.proofs.Bounds.{manifests_are_reasonable}
-use Rattle.suite_top.specs.Kept.{kept_in}
+use Rattle.suite_top.specs.Telling.{telling_value}
 use Rattle.suite_top.proofs.RunEndings.{behind_manifest, without_manifest, refuses_manifest, without_files, behind_files}
 use Rattle.suite_top.proofs.run.run_manifest.Goals as goal
 
 pub load_items-requires : goal.load_items-requires
 load_items-requires g c = rw c.deref-2.ensures.value (manifests_are_reasonable _ _ c.in_ok-manifest.ensures).each_item
 
-pub run_files-requires-clause-manifest : goal.run_files-requires-clause-manifest
-run_files-requires-clause-manifest g c = manifests_are_reasonable _ _ c.in_ok-manifest.ensures
+pub run_files-requires-clause-loaded : goal.run_files-requires-clause-loaded
+run_files-requires-clause-loaded g c = record {
+  manifest = manifests_are_reasonable _ _ c.in_ok-manifest.ensures;
+  files = c.in_ok-files.ensures.count;
+}
 
 pub returns-in_err-bytes : goal.returns-in_err-bytes
 returns-in_err-bytes g c =
     let p = err_from_is_err_and c.from_residual.result c.from_residual.ensures.1 in
-    rw (p.1, p.2) (without_manifest (kept_in c.args.kept) c.args.telling c.args.mode (kind_of c.args.chooser.now) c.args.manifest.now _ _ _ c.in_err-bytes.ensures)
+    rw (p.1, p.2) (without_manifest (telling_value c.args.telling) c.args.manifest.now _ _ _ c.in_err-bytes.ensures)
 
 pub returns-in_err-manifest : goal.returns-in_err-manifest
 returns-in_err-manifest g c =
     let p = err_from_is_err_and c.from_residual-in_err-manifest.result c.from_residual-in_err-manifest.ensures.1 in
-    let kept = kept_in c.args.kept in
-    let kind = kind_of c.args.chooser.now in
+    let telling = telling_value c.args.telling in
     let ends = rw c.deref.ensures.value at c.in_err-manifest.ensures in
     rw (p.1, p.2)
-    (behind_manifest kept c.args.telling c.args.mode kind c.args.manifest.now _ _ _ _ _ c.in_ok-bytes.ensures (refuses_manifest kept c.args.telling c.args.mode kind _ _ _ ends))
+    (behind_manifest telling c.args.manifest.now _ _ _ _ _ c.in_ok-bytes.ensures (refuses_manifest telling _ _ _ ends))
 
 pub returns-in_err-files : goal.returns-in_err-files
 returns-in_err-files g c =
     let p = err_from_is_err_and c.from_residual-in_err-files.result c.from_residual-in_err-files.ensures.1 in
-    let kept = kept_in c.args.kept in
-    let kind = kind_of c.args.chooser.now in
+    let telling = telling_value c.args.telling in
     let reads = rw c.deref.ensures.value at c.in_ok-manifest.ensures in
     let ends = rw c.deref-2.ensures.value at c.in_err-files.ensures in
     rw (p.1, p.2)
-    (behind_manifest kept c.args.telling c.args.mode kind c.args.manifest.now _ _ _ _ _ c.in_ok-bytes.ensures
-    (without_files kept c.args.telling c.args.mode kind _ (manifest_value c.in_ok-manifest.manifest) reads _ _ _ ends))
+    (behind_manifest telling c.args.manifest.now _ _ _ _ _ c.in_ok-bytes.ensures
+    (without_files telling _ (manifest_value c.in_ok-manifest.manifest) reads _ _ _ ends))
 
 pub returns : goal.returns
 returns g c =
-    let kept = kept_in c.args.kept in
-    let kind = kind_of c.args.chooser.now in
+    let telling = telling_value c.args.telling in
     let reads = rw c.deref.ensures.value at c.in_ok-manifest.ensures in
     let gave = rw c.deref-2.ensures.value at c.in_ok-files.ensures in
-    behind_manifest kept c.args.telling c.args.mode kind c.args.manifest.now _ _ _ _ _ c.in_ok-bytes.ensures
-    (behind_files kept c.args.telling c.args.mode kind _ (manifest_value c.in_ok-manifest.manifest) reads _ _ _ _ _ gave c.run_files.ensures)
+    behind_manifest telling c.args.manifest.now _ _ _ _ _ c.in_ok-bytes.ensures
+    (behind_files telling _ (manifest_value c.in_ok-manifest.manifest) reads _ _ _ _ _ gave c.run_files.ensures)
