@@ -7,6 +7,7 @@
 -- Awake     who goes on behind a call or a trap, and what that leaves
 -- TurnLaws  turns, event by event
 -- RunLaws   runs, quantum by quantum
+-- LongerRuns  a run by a longer list of quanta
 -- Steps     instructions of one process, one after the other
 -- Loads     the programs that load notes name
 -- Signals   the signals of instructions
@@ -41,6 +42,7 @@ pub mod Raised
 pub mod Awake
 pub mod TurnLaws
 pub mod RunLaws
+pub mod LongerRuns
 pub mod Steps
 pub mod Loads
 pub mod Signals

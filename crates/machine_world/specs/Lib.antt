@@ -15,6 +15,7 @@
 -- Boot     the opening world
 -- Programs the programs that load notes name
 -- Courses  how far a turn or a run came
+-- Longer   a run by a longer list of quanta
 -- Laws     instructions are events, and what a refused call changes
 -- Others   what an event leaves of all other processes, spaces and tables of descriptors
 -- Placements  which pages a block and a mapping of its own get
@@ -37,6 +38,7 @@ pub mod Turns
 pub mod Boot
 pub mod Programs
 pub mod Courses
+pub mod Longer
 pub mod Laws
 pub mod Others
 pub mod Placements

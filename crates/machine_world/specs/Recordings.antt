@@ -1,6 +1,6 @@
 -- What a run records of one space beside the notes, for who checks that space's program alone, and the room in the log that is left
 -- with it.
-use Rattle.std.specs.Prelude.{ℕ, zero, suc, ◌+◌, ◌==◌, Bool, false, nat_lt, if◌then◌else◌, List, [], ◌∷◌, length, Option, Some, None}
+use Rattle.std.specs.Prelude.{ℕ, zero, suc, ◌+◌, ◌==◌, Bool, false, nat_lt, if◌then◌else◌, List, [], ◌∷◌, length, Some, None}
 use Rattle.call_log.specs.Notes.{has_room}
 use Rattle.flat_loader.specs.Begin.{Loading}
 use Rattle.machine_world.specs.World.{Launch, Recording, World}

@@ -2,6 +2,7 @@
 
 ghost use Rattle.machine_world.specs.Ages.{EventsAgeFiles};
 ghost use Rattle.machine_world.specs.Laws.{InstructionsAreEvents, RefusalsChangeNothingElse, BootsLeaveNoMark, EventsLeaveNoMark, TurnsLeaveNoMark, RunsLeaveNoMark};
+ghost use Rattle.machine_world.specs.Longer.{RunsGoOn};
 ghost use Rattle.machine_world.specs.Order.{EventsKeepOrder, TurnsKeepOrder, RunsKeepOrder, BootsBeginInOrder, EventsKeepCounted, TurnsKeepCounted, RunsKeepCounted, BootsBeginCounted};
 ghost use Rattle.machine_world.specs.Others.{EventsLeaveOthers};
 ghost use Rattle.machine_world.specs.Placements.{MapsAreExact, StartsAreExact, ExecsAreExact};
@@ -69,4 +70,10 @@ pub fn placement_law()
     ensures starts { StartsAreExact }
     ensures mmap2 { MapsAreExact }
     ensures execs { ExecsAreExact }
+{}
+
+/// A run by a longer list of quanta goes on from where a shorter one left it, with the traces of both; and where that ended otherwise
+/// than for want of quanta, it is the whole run. So a run that is made one quantum at a time is the run of all.
+pub fn longer_runs_law()
+    ensures { RunsGoOn }
 {}

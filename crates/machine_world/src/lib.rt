@@ -8,6 +8,6 @@
 mod laws;
 
 pub use laws::{
-    ages_law, counts_law, instructions_law, marks_law, open_files_law, others_law, placement_law,
-    programs_law, refused_calls_law,
+    ages_law, counts_law, instructions_law, longer_runs_law, marks_law, open_files_law, others_law,
+    placement_law, programs_law, refused_calls_law,
 };

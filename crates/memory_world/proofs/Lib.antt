@@ -4,6 +4,7 @@
 -- InMemory what spaces show that have what memory has
 -- Moves    one process in its space, behind instructions
 -- TurnsIn  turns and runs, event by event and quantum by quantum
+-- LongerRunsIn  a run by a longer list of quanta
 -- StepsIn  instructions are events
 -- Shows    every space shows memory behind every event
 -- ByTurnsIn  what every event keeps is kept by turns and runs
@@ -17,6 +18,7 @@ pub mod WideRuns
 pub mod InMemory
 pub mod Moves
 pub mod TurnsIn
+pub mod LongerRunsIn
 pub mod StepsIn
 pub mod ByTurnsIn
 pub mod Shows

@@ -2,6 +2,7 @@
 
 ghost use Rattle.memory_world.specs.Courses.{OwnInstructionsLead, WholeInstructionsLead, OpeningsShow, EventsShow, TurnsShow, RunsShow};
 ghost use Rattle.memory_world.specs.Growth.{EventsAdd, TurnsAdd, RunsAdd, EventsLeavePrograms, TurnsLeavePrograms, RunsLeavePrograms};
+ghost use Rattle.memory_world.specs.Longer.{RunsGoOnIn};
 ghost use Rattle.memory_world.specs.Order.{OpeningsKeepOrder, EventsKeepOrderIn, TurnsKeepOrderIn, RunsKeepOrderIn};
 ghost use Rattle.memory_world.specs.Wider.{MeaningWidens, InstructionsWiden, SentWidens, PutWidens};
 
@@ -51,4 +52,10 @@ pub fn physical_programs_law()
     ensures events { EventsLeavePrograms }
     ensures turns { TurnsLeavePrograms }
     ensures runs { RunsLeavePrograms }
+{}
+
+/// A run over one memory by a longer list of quanta goes on from where a shorter one left it; and where that ended otherwise than for
+/// want of quanta, it is the whole run.
+pub fn longer_runs_in_law()
+    ensures { RunsGoOnIn }
 {}
