@@ -240,6 +240,11 @@ new_kept pages mem slots some most zeros are =
         let at = get_or_from_slice_get (replicate 16384 nothing) i s nothing there in
         ap (λ (x : Slot). x.at) (sym at ∙ get_or-replicate 16384 i nothing nothing (omega (arith, within, long)))
 
+-- a word that was written into a slot is kept there
+pub is_kept : (slots : List Slot) (i : ℕ) (s : Slot) (at : ℕ) → i < length slots → s.at ≡ at → (t : Slot) × (slice_get (slice_set slots i s) i ≡ Some t) × (t.at ≡ at)
+is_kept slots i s at within is =
+    (s, slice_get-get_or (slice_set slots i s) i s (omega (arith, length-set slots i s)) ∙ ap (λ (x : Slot). Some x) (get_or-set_same slots i s s within), is)
+
 -- an instruction that was written into a slot stands there
 pub is_decoded : (found : Option Instr) (slots : List Slot) (i : ℕ) (s : Slot) (instr : Instr) → i < length slots → s.instr ≡ instr → found ≡ Some instr → FieldsFit instr
     → IsDecoded found (slice_set slots i s) i true

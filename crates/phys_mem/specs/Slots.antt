@@ -31,6 +31,10 @@ IsDecoded (Some instr) slots i false = ⊥
 IsDecoded None slots i true = ⊥
 IsDecoded None slots i false = Unit {0}
 
+-- the word at an address stands in its slot
+abbrev pub Keeps : List Slot → ℕ → Type 0
+Keeps slots at = (s : Slot) × (slice_get slots (slot_of at) ≡ Some s) × (s.at ≡ at)
+
 -- ---- what is forgotten
 
 -- the word at an address: other slots stay, or are empty, which is to have the address 2^32 - 1

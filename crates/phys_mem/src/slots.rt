@@ -1,10 +1,10 @@
 //! Words that were decoded.
 
-ghost use Rattle.std.specs.Prelude.{◌≡◌, ◌⊎◌, ◌+◌, ◌-◌, ◌<◌, ◌≤◌, ◌^◌, IfOk, length, replicate};
+ghost use Rattle.std.specs.Prelude.{◌≡◌, ◌⊎◌, ◌+◌, ◌-◌, ◌%◌, ◌<◌, ◌≤◌, ◌^◌, true, IfOk, length, replicate};
 ghost use Rattle.byte_words.specs.ByteMap.{little};
 ghost use Rattle.rv32im_table.specs.Table.{decoded};
 ghost use Rattle.phys_mem.specs.Memory.{Within, place};
-ghost use Rattle.phys_mem.specs.Slots.{slot_of, AreSlots, IsDecoded, IsBeside, Loses, Forgets};
+ghost use Rattle.phys_mem.specs.Slots.{slot_of, AreSlots, IsDecoded, Keeps, IsBeside, Loses, Forgets};
 
 use crate::memory::place_of;
 use crate::words::read;
@@ -58,6 +58,7 @@ pub fn decoded_word(slots: &mut Vec<Slot>, bytes: &[u8], at: u32) -> bool
     requires small { length bytes.now < 2 ^ 31 }
     ensures slot { IsDecoded (decoded (little bytes.now (place at) 4)) slots.new.items (slot_of at) result }
     ensures kept { AreSlots bytes.now slots.old.items → AreSlots bytes.now slots.new.items }
+    ensures keeps { at % 4 ≡ 0 → result ≡ true → Keeps slots.new.items at }
 {
     let Some(instr) = decode(read(bytes, place_of(at) as usize, 4)) else {
         return false;

@@ -133,9 +133,10 @@ impl Recording {
         Ok(())
     }
 
-    /// Takes back what the newest mapping brought: it didn't come about.
+    /// Takes back what the newest mapping brought: it didn't come about. Where none brought anything all stays.
     pub fn take_back(&mut self)
-        ensures { (lists : List (List ℕ)) → (bytes : List ℕ) → self.old.brought ≡ lists ++ bytes ∷ [] → self.new ≡ record self.old { brought = lists } }
+        ensures newest { (lists : List (List ℕ)) → (bytes : List ℕ) → self.old.brought ≡ lists ++ bytes ∷ [] → self.new ≡ record self.old { brought = lists } }
+        ensures none { self.old.brought ≡ [] → self.new ≡ self.old }
     {
         if let Some(bytes) = self.brought.pop() {
             self.weight -= bytes.len() as u64;

@@ -1,6 +1,6 @@
 //! One program by itself: its memory, and the processes that run in it.
 
-ghost use Rattle.std.specs.Prelude.{◌≡◌, IfOk, map};
+ghost use Rattle.std.specs.Prelude.{◌≡◌, false, IfOk, map};
 ghost use Rattle.call_log.specs.Values.{entry_value, got_value};
 ghost use Rattle.flat_loader.specs.Alone.{is_call, is_errno, is_same, args_of, leaves_space, replied, child_regs, solo_effect};
 ghost use Rattle.replay_check.specs.Ranges.{own_memory};
@@ -107,11 +107,12 @@ impl Runner {
 }
 
 impl LoneMemory {
-    /// Whether an entry tells of the call at which a process stands. Where it does, its output is written.
+    /// Whether an entry tells of the call at which a process stands. Where it does, its output is written; else nothing.
     #[tactic(auto, unfolding(crate::specs::Answers::told))]
     fn told(&mut self, alloc: Global, top: &Runner, entry: &Entry) -> Result<bool, AllocError>
         requires { AreFilled (map got_value entry.now.got.items) }
-        ensures { IfOk result (λ right. GivesOrRefutes (told (runner_value top.now) (own_memory self.old) (entry_value entry.now)) right (own_memory self.new)) }
+        ensures gives { IfOk result (λ right. GivesOrRefutes (told (runner_value top.now) (own_memory self.old) (entry_value entry.now)) right (own_memory self.new)) }
+        ensures kept { result ≡ Ok false → self.new ≡ self.old }
     {
         let args = args_of(&top.regs);
         match self.sent(alloc, top.regs.x[17], &args) {

@@ -1,6 +1,6 @@
 //! The memory of one program by itself.
 
-ghost use Rattle.std.specs.Prelude.{◌≡◌, map, true};
+ghost use Rattle.std.specs.Prelude.{◌≡◌, false, map, true};
 ghost use Rattle.call_log.specs.Sent.{sent};
 ghost use Rattle.call_log.specs.Values.{got_value};
 ghost use Rattle.mmap_rules.specs.Owners.{owns};
@@ -79,10 +79,11 @@ impl LoneMemory {
         read_sent(alloc, &self.mem, &self.owners, number, args)
     }
 
-    /// Writes what a call gives, where all of it may be written.
+    /// Writes what a call gives, where all of it may be written; else nothing.
     pub(crate) fn put(&mut self, got: &[Got]) -> bool
         requires { AreFilled (map got_value got.now) }
-        ensures { GivesOrRefutes (put_own (own_memory self.old) (map got_value got.now)) result (own_memory self.new) }
+        ensures gives { GivesOrRefutes (put_own (own_memory self.old) (map got_value got.now)) result (own_memory self.new) }
+        ensures kept { result ≡ false → self.new ≡ self.old }
     {
         if !may_put(&self.owners, got) {
             return false;

@@ -1,6 +1,6 @@
 //! The replay of a program by the items of its space.
 
-ghost use Rattle.std.specs.Prelude.{◌≡◌, ◌≤◌, false, not, ◌||◌, nat_lt, IfOk};
+ghost use Rattle.std.specs.Prelude.{◌≡◌, ◌≤◌, false, true, not, ◌||◌, nat_lt, IfOk};
 ghost use Rattle.flat_loader.specs.Original.{flat_original};
 ghost use Rattle.items_text.specs.Items.{AreSpelled};
 ghost use Rattle.items_text.specs.Values.{items_value};
@@ -32,11 +32,12 @@ fn is_stack(stack: u32) -> bool
     !(stack < LEAST_STACK || stack > MOST_STACK)
 }
 
-/// So many bytes of stack if a program can have them, or others.
+/// So many bytes of stack if a program can have them, or the least that one can have.
 fn some_stack(stack: u32) -> u32
     ensures least { 16 ≤ result }
     ensures most { result ≤ 1048576 }
     ensures same { (nat_lt stack 16 || nat_lt 1048576 stack) ≡ false → result ≡ stack }
+    ensures other { (nat_lt stack 16 || nat_lt 1048576 stack) ≡ true → result ≡ 16 }
 {
     if is_stack(stack) { stack } else { LEAST_STACK }
 }

@@ -15,20 +15,20 @@ pub returns-then-not-branch : goal.returns-then-not-branch
 returns-then-not-branch c =
     let m = own_memory c.args.self.now.memory in
     let i = item_of c.args.entry.now c.args.brought.now in
-    untold c.args.self.now.stack.items c.pop.new.self.items c.in-Some.top m i c.in-Some.ensures.items (own_memory c.told.new.self) _ (rw c.if-not-branch.true at c.in_ok-told.ensures)
+    untold c.args.self.now.stack.items c.pop.new.self.items c.in-Some.top m i c.in-Some.ensures.items (own_memory c.told.new.self) _ (rw c.if-not-branch.true at c.in_ok-told.ensures.gives)
 
 pub returns-then-leaves_space : goal.returns-then-leaves_space
 returns-then-leaves_space c =
     let m = own_memory c.args.self.now.memory in
     let i = item_of c.args.entry.now c.args.brought.now in
-    space_left c.args.self.now.stack.items c.pop.new.self.items c.in-Some.top m i c.in-Some.ensures.items (own_memory c.told.new.self) (rw c.if-not-branch.false at c.in_ok-told.ensures)
+    space_left c.args.self.now.stack.items c.pop.new.self.items c.in-Some.top m i c.in-Some.ensures.items (own_memory c.told.new.self) (rw c.if-not-branch.false at c.in_ok-told.ensures.gives)
     (sym c.leaves_space.ensures ∙ c.if-leaves_space.true)
 
 pub returns-then-is_errno : goal.returns-then-is_errno
 returns-then-is_errno c =
     let m = own_memory c.args.self.now.memory in
     let i = item_of c.args.entry.now c.args.brought.now in
-    call_refused c.args.self.now.stack.items c.pop.new.self.items c.in-Some.top m i c.in-Some.ensures.items (own_memory c.told.new.self) (rw c.if-not-branch.false at c.in_ok-told.ensures)
+    call_refused c.args.self.now.stack.items c.pop.new.self.items c.in-Some.top m i c.in-Some.ensures.items (own_memory c.told.new.self) (rw c.if-not-branch.false at c.in_ok-told.ensures.gives)
     (sym c.leaves_space.ensures ∙ c.if-leaves_space.false) c.push.new.self.items c.replied.result c.replied.ensures c.in_ok-push.ensures.items (sym c.is_errno.ensures ∙ c.if-is_errno.true)
 
 pub returns : goal.returns
@@ -36,6 +36,6 @@ returns c =
     let m = own_memory c.args.self.now.memory in
     let i = item_of c.args.entry.now c.args.brought.now in
     each_ok c.take_effect.result _ _
-    (λ right leaves. call_done c.args.self.now.stack.items c.pop.new.self.items c.in-Some.top m i c.in-Some.ensures.items (own_memory c.told.new.self) (rw c.if-not-branch.false at c.in_ok-told.ensures)
+    (λ right leaves. call_done c.args.self.now.stack.items c.pop.new.self.items c.in-Some.top m i c.in-Some.ensures.items (own_memory c.told.new.self) (rw c.if-not-branch.false at c.in_ok-told.ensures.gives)
     (sym c.leaves_space.ensures ∙ c.if-leaves_space.false) c.push.new.self.items c.replied.result c.replied.ensures c.in_ok-push.ensures.items (sym c.is_errno.ensures ∙ c.if-is_errno.false) right _ leaves)
     c.take_effect.ensures
