@@ -14,6 +14,7 @@ static void array(void)
 
 int main(int argc, char **argv)
 {
+    setvbuf(stdout, 0, _IOLBF, 0);
     const char *kind = argc > 1 ? argv[1] : "";
     volatile char *at = strcmp(kind, "block") ? 0 : malloc(100);
     printf("begins\n");
