@@ -1,4 +1,4 @@
-/* Names of hosts and services. No function here has a body, so a program that calls one fails at the link. */
+/* Names of hosts and services. Those of getaddrinfo and its kin take numbers alone; the others have no body. */
 #ifndef _NETDB_H
 #define _NETDB_H
 #include <netinet/in.h>
@@ -37,6 +37,15 @@ const char *hstrerror(int error);
 #ifdef __cplusplus
 }
 #endif
+#define EAI_NONAME (-2)
+#define EAI_AGAIN (-3)
+#define EAI_FAIL (-4)
+#define EAI_FAMILY (-6)
+#define EAI_SOCKTYPE (-7)
+#define EAI_SERVICE (-8)
+#define EAI_MEMORY (-10)
+#define EAI_SYSTEM (-11)
+#define EAI_OVERFLOW (-12)
 #define AI_PASSIVE 1
 #define AI_CANONNAME 2
 #define AI_NUMERICHOST 4
