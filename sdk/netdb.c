@@ -49,8 +49,8 @@ void freeaddrinfo(struct addrinfo *list)
     free(list);
 }
 
-int getnameinfo(const struct sockaddr *address, socklen_t size, char *host, socklen_t host_size, char *service, socklen_t service_size,
-    int flags)
+int getnameinfo(const struct sockaddr *address, socklen_t size, char *host, socklen_t host_size, char *service,
+    socklen_t service_size, int flags)
 {
     const struct sockaddr_in *given = (const struct sockaddr_in *)address;
     if (address->sa_family != AF_INET || size < sizeof *given)
