@@ -14,10 +14,9 @@ static void array(void)
 
 int main(int argc, char **argv)
 {
-    setvbuf(stdout, 0, _IOLBF, 0);
     const char *kind = argc > 1 ? argv[1] : "";
     volatile char *at = strcmp(kind, "block") ? 0 : malloc(100);
-    printf("begins\n");
+    puts("begins"), fflush(stdout);
     if (!strcmp(kind, "array"))
         array();
     for (long i = 0;; i += 65536)
