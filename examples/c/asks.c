@@ -99,7 +99,29 @@ static void ask_system(void)
     say("chroot", chroot("/"));
     say("swapon", swapon("/nowhere", 0));
     say("swapoff", swapoff("/nowhere"));
+}
+
+/* The kernel of `make kernel` has no network, and no sockets either. */
+static void ask_sockets(void)
+{
+    struct sockaddr address = {.sa_family = AF_UNIX};
+    struct msghdr message = {0};
+    socklen_t size = sizeof address;
+    int value = 1;
     say("socket", socket(AF_UNIX, SOCK_STREAM, 0));
+    say("bind", bind(0, &address, size));
+    say("listen", listen(0, 1));
+    say("accept", accept(0, &address, &size));
+    say("connect", connect(0, &address, size));
+    say("getsockname", getsockname(0, &address, &size));
+    say("getpeername", getpeername(0, &address, &size));
+    say("send", send(0, &value, sizeof value, 0));
+    say("recv", recv(0, &value, sizeof value, 0));
+    say("setsockopt", setsockopt(0, SOL_SOCKET, SO_KEEPALIVE, &value, sizeof value));
+    say("getsockopt", getsockopt(0, SOL_SOCKET, SO_KEEPALIVE, &value, &size));
+    say("shutdown", shutdown(0, SHUT_RDWR));
+    say("sendmsg", sendmsg(0, &message, 0));
+    say("recvmsg", recvmsg(0, &message, 0));
 }
 
 static void ask_files(void)
@@ -166,6 +188,7 @@ int main(void)
     ask_times();
     ask_process();
     ask_system();
+    ask_sockets();
     ask_files();
     ask_signals();
     ask_children();
