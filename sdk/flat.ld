@@ -3,7 +3,7 @@
 ENTRY(_start)
 /* Newlib names these weakly, and a distance to a weak symbol that nothing defines is refused. */
 EXTERN(__call_exitprocs __register_exitproc free)
-/* The bytes of malloc's heap, where the command line says them: else it grows. */
+/* The bytes of malloc's heap are those that the command line says, or 0: then it grows. */
 PROVIDE(__heap_size = 0);
 SECTIONS
 {
