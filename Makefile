@@ -8,6 +8,7 @@
 # make kit        compares the toolchain with the one that the proofs were checked with
 # make sdk        builds newlib and the kit for C programs in build/sdk, if the Debian packages that it names are installed
 # make kernel     builds Linux 6.1 for RV32 without an MMU in build/kernel, if the Debian packages that it names are installed
+# make device     builds BusyBox from Debian's source over the kit, and in build/device a romfs image of it that a kernel boots
 # make real       builds the example programs with the GNU tools for RISC-V, if they are installed, and checks, converts and runs
 #                 them; with `make kernel` it runs the flat files on that kernel too
 # make install    copies the program and flatc-where to $(PREFIX)/bin, and the man page to $(PREFIX)/share/man/man1
@@ -20,7 +21,7 @@ build/flatc: $(SOURCES)
 	@echo 'flatc is proved before it is built: 15 to 25 minutes on four cores the first time, and later what changed.'
 	@tools/build
 
-.PHONY: try demo check cases papers kit sdk kernel real install
+.PHONY: try demo check cases papers kit sdk kernel device real install
 
 try:
 	@echo 'Nothing is proved here: this is the program as it stands in the sources, for a first look.'
@@ -58,6 +59,9 @@ sdk:
 kernel:
 	@$(MAKE) --no-print-directory -f tools/kernel/Makefile
 
+device: build/flatc sdk
+	@examples/busybox/real --device
+
 real: build/flatc sdk
 	examples/real
 	examples/c/real
@@ -66,6 +70,7 @@ real: build/flatc sdk
 	examples/where/real
 	examples/romfs/real
 	examples/programs/real
+	examples/busybox/real
 
 install: build/flatc
 	install -D -m 755 build/flatc $(DESTDIR)$(PREFIX)/bin/flatc

@@ -3,8 +3,8 @@
 ENTRY(_start)
 /* Newlib names these weakly, and a distance to a weak symbol that nothing defines is refused. */
 EXTERN(__call_exitprocs __register_exitproc free)
-/* The bytes of malloc's heap, where the command line doesn't say. */
-PROVIDE(__heap_size = 0x20000);
+/* The bytes of malloc's heap are those that the command line says, or 0: then it grows. */
+PROVIDE(__heap_size = 0);
 SECTIONS
 {
     . = 0x20000;

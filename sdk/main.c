@@ -2,13 +2,12 @@
 #include <stdlib.h>
 #include <unistd.h>
 
-extern int main(int, char **, char **);
 extern void __libc_init_array(void);
 extern void __libc_fini_array(void);
 
 void *__dso_handle = &__dso_handle; /* a C++ destructor is registered under it */
 
-void __flat_main(int argc, char **argv, char **envp)
+void __flat_main(int argc, char **argv, char **envp, int (*main)(int, char **, char **))
 {
     environ = envp;
     atexit(__libc_fini_array);

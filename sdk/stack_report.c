@@ -8,6 +8,7 @@
 void flat_stack_report(void)
 {
     char line[64];
+    fflush(stdout); /* what was printed stands before it */
     unsigned long used = flat_stack_used();
     if (used)
         snprintf(line, sizeof line, "stack: %lu bytes used, %lu left\n", used, flat_stack_left());

@@ -1,5 +1,7 @@
-/* What is fixed of the machine of flatc: sysconf, pathconf and fpathconf. */
+/* What is fixed of the machine of flatc, and what the kernel tells: sysconf, pathconf and fpathconf. */
 #include <errno.h>
+#include <sys/resource.h>
+#include <sys/sysinfo.h>
 #include <unistd.h>
 
 static long unknown(void)
@@ -8,16 +10,29 @@ static long unknown(void)
     return -1;
 }
 
+/* So many pages of the machine's memory. */
+static long pages(int free)
+{
+    struct sysinfo info;
+    if (sysinfo(&info) == -1)
+        return -1;
+    return (free ? info.freeram : info.totalram) / 4096 * info.mem_unit;
+}
+
 long sysconf(int name)
 {
     switch (name) {
     case _SC_ARG_MAX: return 1048576;
     case _SC_CHILD_MAX: return 64;
-    case _SC_OPEN_MAX: return 32;
+    case _SC_CLK_TCK: return 100;
+    case _SC_OPEN_MAX: return getdtablesize();
     case _SC_PAGESIZE: return 4096;
     case _SC_NPROCESSORS_CONF:
     case _SC_NPROCESSORS_ONLN: return 1;
     case _SC_IOV_MAX: return 1024;
+    case _SC_NGROUPS_MAX: return 65536;
+    case _SC_PHYS_PAGES: return pages(0);
+    case _SC_AVPHYS_PAGES: return pages(1);
     default: return unknown();
     }
 }

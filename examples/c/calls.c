@@ -159,6 +159,7 @@ static void streams(void)
 
 int main(void)
 {
+    setvbuf(stdout, 0, _IOLBF, 0);
     transfers();
     pipes();
     mappings();

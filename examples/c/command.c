@@ -13,6 +13,7 @@ static void say(const char *call, int status)
 
 int main(void)
 {
+    setvbuf(stdout, 0, _IOLBF, 0);
     char line[64];
     printf("a shell: %d\n", system(0) != 0);
     say("system", system("./wc poem.txt"));

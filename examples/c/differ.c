@@ -178,6 +178,7 @@ static int own_child(int argc, char **argv)
 
 int main(int argc, char **argv)
 {
+    setvbuf(stdout, 0, _IOLBF, 0);
     if (argc != 1 || !argv[0][0])
         return own_child(argc, argv);
     folders();

@@ -53,6 +53,7 @@ static pid_t start(int fds[2])
 
 int main(int argc, char **argv)
 {
+    setvbuf(stdout, 0, _IOLBF, 0);
     static unsigned char piece[4096];
     int fds[2], status = 0, got, total = 0, wrong = 0;
     (void)argv;

@@ -46,6 +46,7 @@ static void launch(char **words)
 
 int main(void)
 {
+    setvbuf(stdout, 0, _IOLBF, 0);
     char line[80];
     while (fgets(line, sizeof line, stdin)) {
         char *words[WORDS + 1];

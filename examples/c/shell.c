@@ -120,6 +120,7 @@ static int words_of(char *line, char **words)
 
 int main(int argc, char **argv)
 {
+    setvbuf(stdout, 0, _IOLBF, 0);
     char line[128], *words[WORDS + 1];
     if (argc == 3 && !strcmp(argv[1], "-c")) {
         int status = words_of(argv[2], words) ? run(words, 0) : 0;

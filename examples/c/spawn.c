@@ -53,6 +53,7 @@ static void wait_for(pid_t pid)
 
 int main(void)
 {
+    setvbuf(stdout, 0, _IOLBF, 0);
     char *lines[] = {"lines", "12", 0}, *match[] = {"match", "1", 0}, *wc[] = {"wc", 0};
     char *nothing[] = {"nowhere/at/all", 0}, *illegal[] = {"ends", "i", 0};
     int fds[2], status;

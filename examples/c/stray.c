@@ -16,7 +16,7 @@ int main(int argc, char **argv)
 {
     const char *kind = argc > 1 ? argv[1] : "";
     volatile char *at = strcmp(kind, "block") ? 0 : malloc(100);
-    printf("begins\n");
+    puts("begins"), fflush(stdout);
     if (!strcmp(kind, "array"))
         array();
     for (long i = 0;; i += 65536)

@@ -34,6 +34,7 @@ static int full(int out)
 
 int main(int argc, char **argv)
 {
+    setvbuf(stdout, 0, _IOLBF, 0);
     int fds[2];
     if (argc > 1 && !strcmp(argv[1], "reader"))
         return reader();

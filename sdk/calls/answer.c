@@ -11,17 +11,24 @@ static const struct { short linux, newlib; } errors[] = {
     {115, EINPROGRESS}, {116, ESTALE}, {122, EDQUOT}, {125, ECANCELED},
 };
 
-long __flat_answer(long reply)
+int __flat_error(long reply)
 {
     if ((unsigned long)reply < (unsigned long)-4095)
-        return reply;
+        return 0;
     int number = (int)-reply;
-    if (number > 34) {
-        unsigned i = 0;
-        while (i < sizeof errors / sizeof *errors && errors[i].linux != number)
-            i++;
-        number = i < sizeof errors / sizeof *errors ? errors[i].newlib : __ELASTERROR + number;
-    }
-    errno = number;
+    if (number <= 34)
+        return number;
+    unsigned i = 0;
+    while (i < sizeof errors / sizeof *errors && errors[i].linux != number)
+        i++;
+    return i < sizeof errors / sizeof *errors ? errors[i].newlib : __ELASTERROR + number;
+}
+
+long __flat_answer(long reply)
+{
+    int error = __flat_error(reply);
+    if (!error)
+        return reply;
+    errno = error;
     return -1;
 }

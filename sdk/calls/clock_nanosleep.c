@@ -3,24 +3,27 @@
 #include <unistd.h>
 #include "kernel.h"
 
-static int slept(long long seconds, long long nanoseconds)
+/* As POSIX has it, this one returns the error. */
+int clock_nanosleep(clockid_t clock, int flags, const struct timespec *time, struct timespec *rest)
 {
-    long long time[2] = {seconds, nanoseconds};
-    return __flat_answer(kernel6(407, 0, 0, (long)time, 0, 0, 0));
+    return __flat_error(kernel6(407, clock, flags, (long)time, (long)rest, 0, 0));
 }
 
 int nanosleep(const struct timespec *time, struct timespec *rest)
 {
-    (void)rest;
-    return slept(time->tv_sec, time->tv_nsec);
+    return __flat_answer(kernel6(407, CLOCK_REALTIME, 0, (long)time, (long)rest, 0, 0));
 }
 
 unsigned sleep(unsigned seconds)
 {
-    return slept(seconds, 0) ? seconds : 0;
+    struct timespec time = {seconds, 0}, rest = {seconds, 0};
+    if (nanosleep(&time, &rest) == 0)
+        return 0;
+    return rest.tv_sec + (rest.tv_nsec > 0);
 }
 
 int usleep(useconds_t time)
 {
-    return slept(time / 1000000, time % 1000000 * 1000LL);
+    struct timespec given = {time / 1000000, time % 1000000 * 1000};
+    return nanosleep(&given, 0);
 }

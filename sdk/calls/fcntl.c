@@ -1,12 +1,12 @@
-/* 25 fcntl(fd, command, argument): commands 0 to 4 have one number; flags are turned. The machine of flatc has no such call;
-   where the kernel answers ENOSYS, 23 dup, 24 dup3, 63 read and 64 write do what they can: all commands but F_SETFL and those
-   of locks. */
+/* 25 fcntl(fd, command, argument): commands 0 to 4 have one number; flags and locks are turned. The machine of flatc has no such
+   call; where the kernel answers ENOSYS, 23 dup, 24 dup3, 63 read and 64 write do what they can: all commands but F_SETFL and
+   those of locks. */
 #include <errno.h>
 #include <fcntl.h>
 #include <stdarg.h>
 #include "kernel.h"
 
-enum { DESCRIPTORS = 32, LINUX_F_DUPFD_CLOEXEC = 1030, LINUX_EINVAL = 22 };
+enum { DESCRIPTORS = 32, LINUX_F_DUPFD_CLOEXEC = 1030, LINUX_F_GETLK64 = 12 };
 
 unsigned __flat_closing;
 
@@ -86,14 +86,37 @@ static int without_call(int fd, int command, long argument)
     }
 }
 
+/* The kernel's lock: its types begin at 0. */
+static int locked(int fd, int command, struct flock *lock)
+{
+    struct {
+        short type, whence;
+        long long start, length;
+        int pid;
+    } given = {lock->l_type - F_RDLCK, lock->l_whence, lock->l_start, lock->l_len, 0};
+    long reply = kernel3(25, fd, command - F_GETLK + LINUX_F_GETLK64, (long)&given);
+    if (reply == 0 && command == F_GETLK) {
+        lock->l_type = given.type + F_RDLCK;
+        if (lock->l_type != F_UNLCK) {
+            lock->l_whence = given.whence;
+            lock->l_start = given.start;
+            lock->l_len = given.length;
+            lock->l_pid = given.pid;
+        }
+    }
+    return __flat_answer(reply);
+}
+
 int fcntl(int fd, int command, ...)
 {
     va_list rest;
     va_start(rest, command);
     long argument = va_arg(rest, long);
     va_end(rest);
+    if (command >= F_GETLK && command <= F_SETLKW)
+        return locked(fd, command, (struct flock *)argument);
     if ((command < F_DUPFD || command > F_SETFL) && command != F_DUPFD_CLOEXEC) {
-        errno = command == F_GETLK || command == F_SETLK || command == F_SETLKW ? ENOSYS : EINVAL;
+        errno = EINVAL;
         return -1;
     }
     int number = command == F_DUPFD_CLOEXEC ? LINUX_F_DUPFD_CLOEXEC : command;
@@ -104,4 +127,10 @@ int fcntl(int fd, int command, ...)
     if (command != F_GETFL || reply < 0)
         return __flat_answer(reply);
     return (reply & 3) | (reply & 0x400 ? O_APPEND : 0) | (reply & 0x800 ? O_NONBLOCK : 0);
+}
+
+/* By this name newlib's stdio asks. */
+int _fcntl(int fd, int command, long argument)
+{
+    return fcntl(fd, command, argument);
 }

@@ -5,7 +5,7 @@
 #include <unistd.h>
 #include "kernel.h"
 
-enum { LINUX_EINVAL = 22, LINUX_ERANGE = 34, LONGEST = 4096 };
+enum { LINUX_ERANGE = 34, LONGEST = 4096 };
 
 static long told(char *bytes, size_t count)
 {

@@ -1,7 +1,9 @@
-/* 174 getuid(), 175 geteuid(), 176 getgid(), 177 getegid(), 158 getgroups(count, groups), 146 setuid(user), 144 setgid(group).
-   The machine of flatc has none of them. It has one user, who is 0 in what waitid tells of a child; so where the kernel answers
-   ENOSYS, user and group are 0. They can't be set. */
+/* 174 getuid(), 175 geteuid(), 176 getgid(), 177 getegid(), 158 getgroups(count, groups), 159 setgroups(count, groups), 146
+   setuid(user), 144 setgid(group), 147 setresuid and 149 setresgid(real, effective, saved). The machine of flatc has none of them.
+   It has one user, who is 0 in what waitid tells of a child; so where the kernel answers ENOSYS, user and group are 0. They can't
+   be set. */
 #include <errno.h>
+#include <grp.h>
 #include <unistd.h>
 #include "kernel.h"
 
@@ -45,12 +47,12 @@ char *getlogin(void)
 
 int getgroups(int count, gid_t *groups)
 {
-    /* The kernel's groups have 32 bits, and newlib's 16. */
-    unsigned all[32];
-    long reply = kernel3(158, count > 32 ? 32 : count, (long)all, 0);
-    for (long i = 0; count && i < reply; i++)
-        groups[i] = all[i];
-    return __flat_answer(reply);
+    return __flat_answer(kernel3(158, count, (long)groups, 0));
+}
+
+int setgroups(int count, const gid_t *groups)
+{
+    return __flat_answer(kernel3(159, count, (long)groups, 0));
 }
 
 int setuid(uid_t user)
@@ -61,4 +63,14 @@ int setuid(uid_t user)
 int setgid(gid_t group)
 {
     return __flat_answer(kernel3(144, group, 0, 0));
+}
+
+int seteuid(uid_t user)
+{
+    return __flat_answer(kernel3(147, -1, user, -1));
+}
+
+int setegid(gid_t group)
+{
+    return __flat_answer(kernel3(149, -1, group, -1));
 }

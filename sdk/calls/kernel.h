@@ -23,6 +23,9 @@ static inline long kernel3(long n, long a, long b, long c)
 /* The reply, or -1 with errno where it lies between -4095 and -1 (answer.c). */
 long __flat_answer(long reply);
 
+/* What such a reply is as a number of an error: 0, or newlib's errno. */
+int __flat_error(long reply);
+
 /* Newlib's flags of open, and its folder AT_FDCWD, as Linux has them (openat.c). */
 long __flat_flags(int flags);
 long __flat_folder(int fd);
@@ -36,6 +39,16 @@ extern unsigned __flat_closing;
 /* As __flat_answer, of a new descriptor, which closes at an execve or doesn't. */
 long __flat_opened(long fd, int closes);
 
+/* The kernel's times and counts of a process, whose times have 32 bits here, as newlib has them (getrusage.c). */
+struct kernel_usage {
+    long times[4], counts[14];
+};
+struct rusage;
+void __flat_usage(struct rusage *result, const struct kernel_usage *told);
+
 enum { LINUX_AT_FDCWD = -100, LINUX_O_CLOEXEC = 0x80000 };
-enum { LINUX_EBADF = 9, LINUX_EACCES = 13, LINUX_ENOTDIR = 20, LINUX_EISDIR = 21, LINUX_ESPIPE = 29, LINUX_ENOSYS = 38 };
+enum {
+    LINUX_EPERM = 1, LINUX_EBADF = 9, LINUX_EAGAIN = 11, LINUX_EACCES = 13, LINUX_ENOTDIR = 20, LINUX_EISDIR = 21,
+    LINUX_EINVAL = 22, LINUX_ESPIPE = 29, LINUX_ENOSYS = 38
+};
 #endif

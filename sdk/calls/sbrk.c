@@ -1,5 +1,5 @@
-/* The heap of malloc: one anonymous mapping, made at the first use. Its size is the value of the symbol __heap_size:
-   -Wl,--defsym=__heap_size=0x40000 sets it, and flat.ld gives 0x20000 where nothing does. A heap doesn't grow past it. */
+/* sbrk, for programs that call it: one anonymous mapping, made at the first use, that doesn't grow. It has as many bytes as the
+   symbol __heap_size says, or 131,072 where the link doesn't set it. malloc.c has nothing to do with it. */
 #include <errno.h>
 #include <sys/mman.h>
 #include <unistd.h>
@@ -12,9 +12,9 @@ void *_sbrk(ptrdiff_t more)
 {
     static char *heap;
     static unsigned long used;
-    unsigned long size = (unsigned long)heap_size;
+    unsigned long size = heap_size ? (unsigned long)heap_size : 0x20000;
     if (!heap) {
-        void *at = size ? mmap(0, size, PROT_READ | PROT_WRITE, MAP_PRIVATE | MAP_ANONYMOUS, -1, 0) : MAP_FAILED;
+        void *at = mmap(0, size, PROT_READ | PROT_WRITE, MAP_PRIVATE | MAP_ANONYMOUS, -1, 0);
         if (at == MAP_FAILED) {
             errno = ENOMEM;
             return (void *)-1;

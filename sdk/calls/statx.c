@@ -4,6 +4,7 @@
 #include <fcntl.h>
 #include <string.h>
 #include <sys/stat.h>
+#include <sys/sysmacros.h>
 #include <unistd.h>
 #include "kernel.h"
 
@@ -33,17 +34,17 @@ static long looked(int folder, const char *path, int flags, struct stat *stat)
     if (reply < 0)
         return reply;
     memset(stat, 0, sizeof *stat);
-    stat->st_dev = x.major << 8 | x.minor;
+    stat->st_dev = makedev(x.major, x.minor);
     stat->st_ino = x.inode;
     stat->st_mode = x.mode;
     stat->st_nlink = x.links;
     stat->st_uid = x.user;
     stat->st_gid = x.group;
-    stat->st_rdev = x.major_of_device << 8 | x.minor_of_device;
+    stat->st_rdev = makedev(x.major_of_device, x.minor_of_device);
     stat->st_size = x.size;
-    stat->st_atime = x.access.seconds;
-    stat->st_mtime = x.modification.seconds;
-    stat->st_ctime = x.change.seconds;
+    stat->st_atim = (struct timespec){x.access.seconds, x.access.nanoseconds};
+    stat->st_mtim = (struct timespec){x.modification.seconds, x.modification.nanoseconds};
+    stat->st_ctim = (struct timespec){x.change.seconds, x.change.nanoseconds};
     stat->st_blksize = x.block;
     stat->st_blocks = x.blocks;
     return 0;
