@@ -75,10 +75,11 @@ overflow_add-events-in-Ok-GoesOn g c =
     let events_within = c.loop-events.invariant.within in
     search rules
 
-pub overflow_add-over : goal.overflow_add-over
-overflow_add-over g c =
+pub overflow_add-events-in-Ok-TurnEnds : goal.overflow_add-events-in-Ok-TurnEnds
+overflow_add-events-in-Ok-TurnEnds g c =
     let other : c.instructions-progress.result.stop ≢ Next = search rules in
     let less = less_within (reach_of c.instructions-progress.new.parts.noted) c.instructions-progress.new.parts.kept c.args.pid (c.args.count - c.loop-events.events) c.instructions-progress.result.done c.instructions-progress.result.stop other c.instructions-progress.ensures.memory.halts in
+    let events_within = c.loop-events.invariant.within in
     search rules
 
 pub loop-events-preserved : goal.loop-events-preserved

@@ -111,7 +111,7 @@ returns-clause-opens g c =
     rw (parts_is, kind) (record {
       memory = opened (headers_of c.args.setup.programs.items) a c.loop-start.parts c.loop-start.invariant.laid;
       mode = refl;
-      quiet = noted_state _ ∙ c.loop-start.invariant.quiet;
+      quiet = noted_state (record { kept = c.loop-start.parts; kind = kind_of c.args.chooser.now; paths = paths_of c.args.setup.paths.items; programs = c.args.setup.programs.items; events = 0; mode = c.args.setup.mode; reach = reach_of (has_stray c.loop-start.parts.notes) }) ∙ c.loop-start.invariant.quiet;
       waits = (boots_wait_well rest (lines_of c.deref-start-items.result.now) (world_of a c.loop-start.parts) (record { some = c.requires.setup.some; most = c.requires.setup.most; changes = c.requires.setup.changes }) refl few (sym (all ∙ first_is))).1;
       stays = rw (← c.deref-start-items.ensures.value) (boots_begin_stays rest (lines_of c.deref-start-items.result.now) (world_of a c.loop-start.parts) (record { some = c.requires.setup.some; most = c.requires.setup.most; changes = c.requires.setup.changes }) (sym (all ∙ first_is)));
     })
