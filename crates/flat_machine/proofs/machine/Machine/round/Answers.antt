@@ -1,5 +1,6 @@
 -- The quanta so far, and the next.
 use Rattle.std.proofs.Common.{◌≡◌, [], Some, None, Ok, rules, refl, sym, ◌∙◌, arith}
+use Rattle.std.proofs.lemmas.List.{take_all}
 use Rattle.std.proofs.lemmas.List.Sums.{sum_by-drop_more}
 use Rattle.quantum_sched.specs.declared.Quantum.{Quantum}
 use Rattle.machine_world.proofs.RunLaws.{comes_none}
@@ -152,17 +153,15 @@ returns-clause-keeps g c =
 pub returns-clause-halts : goal.returns-clause-halts
 returns-clause-halts g c halting =
     let before = c.loop-quantum.invariant in
-    let comes = before.comes halting in
-    let found = before.hits halting in
-    record { leaves = search rules; quiet = λ calm. before.halts halting; copies = before.copies halting; hits = search rules }
+    let all = take_all c.loop-quantum.quantum-index c.args.quanta.now c.loop-quantum-test.false in
+    let comes = rw all at (before.comes halting) in
+    let found = rw all at (before.hits halting) in
+    record { leaves = comes; quiet = λ calm. before.halts halting; copies = before.copies halting; hits = found }
 
 pub returns-clause-goes_on : goal.returns-clause-goes_on
 returns-clause-goes_on g c go =
     let before = c.loop-quantum.invariant in
-    let comes = before.memory go in
-    let found = before.hits_in go in
-    record {
-      memory = search rules;
-      first = λ quiet. let first = before.first go quiet in search rules;
-      hits = search rules;
-    }
+    let all = take_all c.loop-quantum.quantum-index c.args.quanta.now c.loop-quantum-test.false in
+    let comes = rw all at (before.memory go) in
+    let found = rw all at (before.hits_in go) in
+    record { memory = comes; first = λ quiet. rw all at (before.first go quiet); hits = found }

@@ -24,7 +24,7 @@ invariant-loop-time g l = record {
   comes : IsHalting l.fn.self → Comes (repeated l._time l.quanta) (world l.fn.self) (world l.self);
   memory : l.fn.self.mode ≡ GoOn → ComesIn (repeated l._time l.quanta) (one_memory l.fn.self) (one_memory l.self);
   first : l.fn.self.mode ≡ GoOn → has_stray (world l.fn.self).notes ≡ false → LeavesFirst (repeated l._time l.quanta) (world l.fn.self) (world l.self) (Ok None);
-  hits : IsHalting l.fn.self → HitsCome (hits (kind_of_point l.watcher.point.now) l.watcher.spans.now) l.fn.hits l.hits (repeated l._time l.quanta) (world l.fn.self) (world l.self);
-  hits_in : l.fn.self.mode ≡ GoOn → HitsCome (hits_in_memory (kind_of_point l.watcher.point.now) l.watcher.spans.now) l.fn.hits l.hits (repeated l._time l.quanta) (one_memory l.fn.self) (one_memory l.self);
+  hits : IsHalting l.fn.self → HitsCome (hits (kind_of_point l.fn.watcher.point.now) l.fn.watcher.spans.now) l.fn.hits l.hits (repeated l._time l.quanta) (world l.fn.self) (world l.self);
+  hits_in : l.fn.self.mode ≡ GoOn → HitsCome (hits_in_memory (kind_of_point l.fn.watcher.point.now) l.fn.watcher.spans.now) l.fn.hits l.hits (repeated l._time l.quanta) (one_memory l.fn.self) (one_memory l.self);
   events : l.self.events ≤ l.fn.self.events + l._time * sum_by (λ q. q.count) l.quanta;
 }
