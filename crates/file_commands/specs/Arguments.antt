@@ -1,5 +1,6 @@
 -- The table of commands. The arguments are those after the program's name; a name is any text.
 use Rattle.std.specs.Prelude.{ℕ, Bool, true, false, String, string_bytes, map, ◌&&◌, nat_le, List, [], ◌∷◌, codes, slice_index, bytes_eq, decimal, Option, Some, None, option_map, if◌then◌else◌}
+use Rattle.std.specs.declared.alloc.Global.{Global}
 use Rattle.std.specs.Borrow.{Bor}
 use Rattle.std.specs.Int.{IsInRange}
 use Rattle.std.specs.Str.Parse.{digits_value}
@@ -257,10 +258,10 @@ abbrev pub kept_value : KeptArguments → KeptItems
 kept_value k = record { number = k.number; file = k.file.now }
 
 -- what it read of an option, and the words that were left
-abbrev pub given_value : {A : Type 0} → A × Bor (List String) → A × List (List ℕ)
+abbrev pub given_value : {A : Type 0} → A × Bor (List (String Global)) → A × List (List ℕ)
 given_value given = (given.0, map string_bytes given.1.now)
 
-abbrev pub kept_given : Option KeptArguments × Bor (List String) → Option KeptItems × List (List ℕ)
+abbrev pub kept_given : Option KeptArguments × Bor (List (String Global)) → Option KeptItems × List (List ℕ)
 kept_given given = (option_map kept_value given.0, map string_bytes given.1.now)
 
 -- the options that it read

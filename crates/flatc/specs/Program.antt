@@ -1,5 +1,6 @@
 -- What the program does with its arguments: a page of its own, or else the top call.
 use Rattle.std.specs.Prelude.{◌≡◌, ◌≢◌, ℕ, List, [], map, drop, String, string_bytes, Option, Some, None, Result, Ok, Err}
+use Rattle.std.specs.declared.alloc.Global.{Global}
 use Rattle.std_io.specs.declared.io.kind.ErrorKind.{ErrorKind}
 use Rattle.std_io.specs.declared.io.kind.ErrorKind.TheVariants as kind
 use Rattle.host_io.specs.Host.{Told}
@@ -14,7 +15,7 @@ use Rattle.flatc.specs.declared.program.Arguments.TheVariants.{Words, NotText, O
 
 -- what is made of what was read of a process: all words but the first, which is the program's name; or there was no memory for them, or
 -- for the reading; or it had another error, as where an argument isn't text
-abbrev pub IsReadOf : {A E : Type 0} → (words_of : A → List String) → (kind_of : E → ErrorKind) → Result A E → Arguments → Type 0
+abbrev pub IsReadOf : {A E : Type 0} → (words_of : A → List (String Global)) → (kind_of : E → ErrorKind) → Result A E → Arguments → Type 0
 IsReadOf words_of kind_of (Ok all) (Words words) = words.items ≡ drop 1 (words_of all)
 IsReadOf words_of kind_of (Ok all) NotText = ⊥
 IsReadOf words_of kind_of (Ok all) OutOfMemory = Unit {0}
