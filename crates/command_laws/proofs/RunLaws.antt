@@ -142,5 +142,5 @@ opens_where_it_stops inputs name telling stop =
 pub runs_stop_or_end_early : RunsStopOrEndEarly
 runs_stop_or_end_early name telling inputs =
     run_by (λ (o : Outcome). IsStop o.ending.status ⊎ IsEarly o.ending) (λ tail. inr (refl, inr refl)) telling
-    (λ telling dumped w end. inl (told_status IsStop tt tt tt tt tt telling dumped w end)) (λ name o p. p) (λ name. inr (refl, inl refl))
+    (λ dumped w end. inl (told_status IsStop tt tt tt tt tt telling dumped w end)) (λ name o p. p) (λ name. inr (refl, inl refl))
     name inputs
