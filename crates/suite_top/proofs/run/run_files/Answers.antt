@@ -55,7 +55,7 @@ returns-in_err-machine g c =
     let telling = telling_value c.args.telling in
     let brings = rw c.deref.ensures.value at c.in_ok-files.ensures.brought in
     let same = boots_as (opening (keep_of (kept_of telling)) (placement_of telling) m b) c.args.loaded.manifest.starts.items m _ refl refl in
-    let ends = rw (c.keep_of.ensures, c.kept.ensures, c.requires.kind) at c.in_err-machine.ensures.world in
+    let ends = rw (c.keep_of.ensures, c.kept-kept.ensures, c.requires.kind) at c.in_err-machine.ensures.world in
     rw (p.1, p.2)
     (refuses_start telling m (vec_texts c.args.loaded.files.items) b brings _ _ (rw same ends))
 
@@ -71,7 +71,7 @@ returns-in_err-keep_items g c =
     let b = brought_value c.in_ok-files.files in
     let telling = telling_value c.args.telling in
     let brings = rw c.deref.ensures.value at c.in_ok-files.ensures.brought in
-    let boots = rw (c.keep_of.ensures, c.kept.ensures, c.requires.kind) at c.in_ok-machine.ensures.world in
+    let boots = rw (c.keep_of.ensures, c.kept-kept.ensures, c.requires.kind) at c.in_ok-machine.ensures.world in
     let starts = boots_as (opening (keep_of (kept_of telling)) (placement_of telling) m b) c.args.loaded.manifest.starts.items m _ refl boots in
     rw (p.1, p.2)
     (behind_start telling m (vec_texts c.args.loaded.files.items) b brings _ _ (world c.in_ok-machine.machine) _ starts
@@ -84,7 +84,7 @@ returns g c =
     let b = brought_value c.in_ok-files.files in
     let telling = telling_value c.args.telling in
     let brings = rw c.deref.ensures.value at c.in_ok-files.ensures.brought in
-    let boots = rw (c.keep_of.ensures, c.kept.ensures, c.requires.kind) at c.in_ok-machine.ensures.world in
+    let boots = rw (c.keep_of.ensures, c.kept-kept.ensures, c.requires.kind) at c.in_ok-machine.ensures.world in
     let starts = boots_as (opening (keep_of (kept_of telling)) (placement_of telling) m b) c.args.loaded.manifest.starts.items m _ refl boots in
     behind_start telling m (vec_texts c.args.loaded.files.items) b brings _ _ (world c.in_ok-machine.machine) _ starts
     (keeps_all telling (mode_of telling) (course_of c.args.loaded.manifest) b.headers c.in_ok-machine.machine c.run_machine.new.machine c.in_ok-answer.answer _ _ _

@@ -1,6 +1,8 @@
 -- What is there goes on behind the loads, and what isn't ends the run.
+use Rattle.std.proofs.Common.{sym, ◌∙◌}
+use Rattle.std.proofs.lemmas.List.{length-map}
 use Rattle.std.proofs.lemmas.Result.{err_from_is_err_and}
-use Rattle.manifest_text.specs.Values.{manifest_value}
+use Rattle.manifest_text.specs.Values.{item_value, manifest_value}
 use Rattle.manifest_text.proofs.Bounds.{manifests_are_reasonable}
 use Rattle.suite_top.specs.Telling.{telling_value}
 use Rattle.suite_top.proofs.RunEndings.{behind_manifest, without_manifest, refuses_manifest, without_files, behind_files}
@@ -10,10 +12,14 @@ pub load_items-requires : goal.load_items-requires
 load_items-requires g c = rw c.deref-2.ensures.value (manifests_are_reasonable _ _ c.in_ok-manifest.ensures).each_item
 
 pub run_files-requires-clause-loaded : goal.run_files-requires-clause-loaded
-run_files-requires-clause-loaded g c = record {
-  manifest = manifests_are_reasonable _ _ c.in_ok-manifest.ensures;
-  files = c.in_ok-files.ensures.count;
-}
+run_files-requires-clause-loaded g c =
+    let files = c.in_ok-files.files in
+    let manifest = c.in_ok-manifest.manifest in
+    let gave = rw c.deref-2.ensures.value at c.in_ok-files.ensures in
+    record {
+      manifest = manifests_are_reasonable _ _ c.in_ok-manifest.ensures;
+      files = sym (length-map files.items (λ v. v.items)) ∙ gave.count ∙ length-map manifest.items.items item_value;
+    }
 
 pub returns-in_err-bytes : goal.returns-in_err-bytes
 returns-in_err-bytes g c =
