@@ -73,10 +73,11 @@ returns-in_err-keep_items g c =
     let brings = rw c.deref.ensures.value at c.in_ok-files.ensures.brought in
     let boots = rw (c.keep_of.ensures, c.kept-kept.ensures, c.requires.kind) at c.in_ok-machine.ensures.world in
     let starts = boots_as (opening (keep_of (kept_of telling)) (placement_of telling) m b) c.args.loaded.manifest.starts.items m _ refl boots in
+    let keeps = rw c.kept-kept.ensures at c.in_err-keep_items.ensures in
     rw (p.1, p.2)
     (behind_start telling m (vec_texts c.args.loaded.files.items) b brings _ _ (world c.in_ok-machine.machine) _ starts
     (keeps_all telling (mode_of telling) (course_of c.args.loaded.manifest) b.headers c.in_ok-machine.machine c.run_machine.new.machine c.in_ok-answer.answer _ _ _
-    (c.in_ok-machine.ensures.mode ∙ c.mode.ensures) c.in_ok-machine.ensures.memory c.in_ok-answer.ensures.halt c.in_ok-answer.ensures.go_on c.in_err-keep_items.ensures))
+    (c.in_ok-machine.ensures.mode ∙ c.mode.ensures) c.in_ok-machine.ensures.memory c.in_ok-answer.ensures.halt c.in_ok-answer.ensures.go_on keeps))
 
 pub returns : goal.returns
 returns g c =
@@ -86,6 +87,7 @@ returns g c =
     let brings = rw c.deref.ensures.value at c.in_ok-files.ensures.brought in
     let boots = rw (c.keep_of.ensures, c.kept-kept.ensures, c.requires.kind) at c.in_ok-machine.ensures.world in
     let starts = boots_as (opening (keep_of (kept_of telling)) (placement_of telling) m b) c.args.loaded.manifest.starts.items m _ refl boots in
+    let keeps = rw c.kept-kept.ensures at c.in_ok-keep_items.ensures in
     behind_start telling m (vec_texts c.args.loaded.files.items) b brings _ _ (world c.in_ok-machine.machine) _ starts
     (keeps_all telling (mode_of telling) (course_of c.args.loaded.manifest) b.headers c.in_ok-machine.machine c.run_machine.new.machine c.in_ok-answer.answer _ _ _
-    (c.in_ok-machine.ensures.mode ∙ c.mode.ensures) c.in_ok-machine.ensures.memory c.in_ok-answer.ensures.halt c.in_ok-answer.ensures.go_on c.in_ok-keep_items.ensures)
+    (c.in_ok-machine.ensures.mode ∙ c.mode.ensures) c.in_ok-machine.ensures.memory c.in_ok-answer.ensures.halt c.in_ok-answer.ensures.go_on keeps)
