@@ -12,7 +12,7 @@ boot-requires-clause-setup c = record {
   most = search rules;
   changes = search rules;
   paths = search rules;
-  starts = search rules;
+  starts = rw (← length-map c.args.manifest.starts.items start_value) c.requires.starts;
   args = λ i s is.
       rw (← length-map s.args.items (λ v. v.items)) (each_got HasArgument start_value c.args.manifest.starts.items i s is c.requires.each_start);
 }
