@@ -34,7 +34,7 @@ use Rattle.watch_points.specs.declared.hits.Hit.{Hit}
 use Rattle.watch_points.specs.declared.point.PointKind.{PointKind}
 use Rattle.watch_points.specs.declared.span.Span.{Span}
 use Rattle.watch_points.specs.Points.{Found, with_hits}
-use Rattle.watch_points.proofs.Kept.{with_hits-nil}
+use Rattle.watch_points.proofs.HitLists.{with_hits-nil}
 use Rattle.flat_machine.specs.declared.turn.After.{After}
 use Rattle.flat_machine.specs.declared.turn.After.TheVariants as after
 use Rattle.flat_machine.specs.State.{is_whole}

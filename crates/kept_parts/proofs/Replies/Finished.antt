@@ -8,7 +8,7 @@ use Rattle.mmap_rules.specs.Held.{Held, next_brk}
 use Rattle.region_watch.specs.Private.{physical}
 use Rattle.mem_files.specs.Inodes.{Inodes}
 use Rattle.fd_tables.specs.Files.{OpenFiles}
-use Rattle.fd_tables.specs.Kept.{KeptFiles as FilesKept}
+use Rattle.fd_tables.specs.Spare.{SpareFiles}
 use Rattle.vfork_exec.specs.declared.entry.Entry.{Entry}
 use Rattle.vfork_exec.specs.Procs.{Listed, Lives, value_at, with_value_at}
 use Rattle.machine_world.specs.World.{Rest, Recording}
@@ -115,7 +115,7 @@ module _ (a : About) (k : Kept) (e : Entry Task) (h : Held) (call : Call) (runs 
   -- ---- by a change of files
 
   module _ (is : IsCall e call) where
-    pub is_rest : (files : FilesKept) → files.open_files ≡ k.files → IsRest (ask_in a k e h call).rest k.tree files k.console
+    pub is_rest : (files : SpareFiles) → files.open_files ≡ k.files → IsRest (ask_in a k e h call).rest k.tree files k.console
     unfolding world_of
     is_rest files open_now = record { tree = refl; files = sym open_now; console = refl }
 

@@ -9,7 +9,7 @@ use Rattle.run_setup.specs.Making.{brought_value}
 use Rattle.run_setup.proofs.Opened.{each_got}
 use Rattle.flat_machine.specs.State.{world}
 use Rattle.suite_top.specs.declared.course.Course.{Course}
-use Rattle.suite_top.specs.Kept.{keep_of}
+use Rattle.suite_top.specs.KeptItems.{keep_of}
 use Rattle.suite_top.specs.Telling.{mode_of, placement_of, kept_of, telling_value}
 use Rattle.suite_top.specs.Run.{opening}
 use Rattle.suite_top.proofs.Booted.{no_event_yet, kind_stays, events_fit, machine_events, machine_kind, boots_as}

@@ -45,7 +45,7 @@ abbrev pub fitting : Ask → ℕ → List ℕ → List ℕ
 fitting a id bytes = take (pipe_room (pipe_view a.rest.files id)) bytes
 
 -- P holds after each change that a row makes
-pub record Kept (P : Rest → Type 0) (a : Ask) : Type 0 where
+pub record EachChange (P : Rest → Type 0) (a : Ask) : Type 0 where
   -- dup, dup3 and close
   pub dup : (free : ℕ) → dup_number (view_of a (arg a 0)) (free_of a) ≡ Ok free
       → P (with_files a.rest (duplicated a.rest.files (table_of a) (arg a 0) free false))
@@ -82,7 +82,7 @@ pub record Kept (P : Rest → Type 0) (a : Ask) : Type 0 where
       → creates (arg a 2) ≡ true → with_file a.rest.tree (path_of a) [] None ≡ Ok nodes → P (opened_as a fd (length a.rest.tree) nodes)
 
 -- rows leave the programs, the pages and the choice of free runs: what says nothing of all else holds after each change
-pub kept_outside : (P : List Program → ℕ → Kind → Type 0) (a : Ask) → P a.rest.programs a.rest.pages a.rest.kind → Kept (λ rest. P rest.programs rest.pages rest.kind) a
+pub kept_outside : (P : List Program → ℕ → Kind → Type 0) (a : Ask) → P a.rest.programs a.rest.pages a.rest.kind → EachChange (λ rest. P rest.programs rest.pages rest.kind) a
 kept_outside P a same = record {
   dup = λ free is. same;
   dup3 = λ none. same;

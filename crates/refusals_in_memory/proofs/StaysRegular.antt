@@ -15,7 +15,7 @@ use Rattle.machine_world.specs.World.{Process, LiveSpace, World, pid_of, id_of}
 use Rattle.machine_world.specs.Asks.{Ask, Reply, Row, replies, waits, gives}
 use Rattle.machine_world.specs.Rows.{row}
 use Rattle.machine_world.specs.Event.{Trace, Outcome, went, strays, full, idle, stepped, trapped, room_for, served, waited, ask_of, classed, awake}
-use Rattle.machine_world.proofs.Kept.{Answers}
+use Rattle.machine_world.proofs.EachChange.{Answers}
 use Rattle.machine_world.proofs.ByEvents.{Went, by_classed}
 use Rattle.refusal_laws.specs.Bounded.{IsWithin, IsBounded}
 use Rattle.refusal_laws.proofs.Lists.{each_map}
