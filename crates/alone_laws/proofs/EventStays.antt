@@ -19,7 +19,7 @@ use Rattle.machine_world.specs.Asks.{Ask, Reply, Row, replies, waits}
 use Rattle.machine_world.specs.Event.{Trace, Outcome, went, strays, full, idle, counted, stepped, ask_of, entry_of, item_of, room_for, served, put, waited, with_state, answered, awake, settled}
 use Rattle.machine_world.proofs.States.{with_regs, with_own}
 use Rattle.machine_world.proofs.Awake.{woke, all_roused_is}
-use Rattle.machine_world.proofs.Kept.{Answers}
+use Rattle.machine_world.proofs.EachChange.{Answers}
 use Rattle.alone_laws.specs.Stays.{Stay, change_at, longer, collect, runner_of, runners, alone_end, Agrees, kept_calls_of, loads_of, head_of, loaded_head, AreRight}
 use Rattle.alone_laws.specs.Sound.{IsSound}
 use Rattle.alone_laws.proofs.Lists.{eqb_same, length-change_at, map-change_at, change_at-same}

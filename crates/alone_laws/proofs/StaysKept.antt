@@ -13,7 +13,7 @@ use Rattle.machine_world.specs.Families.{MayRun}
 use Rattle.machine_world.specs.Asks.{Ask}
 use Rattle.machine_world.specs.Rows.{row}
 use Rattle.machine_world.specs.Event.{ask_of, answered, exited, is_exit, waitid, cloned, exec, asked, answer, trapped, effect, in_space, by_process, at_process, event}
-use Rattle.machine_world.proofs.Kept.{kept_outside}
+use Rattle.machine_world.proofs.EachChange.{kept_outside}
 use Rattle.machine_world.proofs.ByRows.{by_rows}
 use Rattle.machine_world.proofs.States.{find_has}
 use Rattle.alone_laws.specs.Stays.{Stay, AreRight}

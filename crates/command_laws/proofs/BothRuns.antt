@@ -16,7 +16,7 @@ use Rattle.file_commands.specs.Load.{at_once, behind, with_limited, with_load}
 use Rattle.file_commands.specs.Items.{load_limit, files_limit, has_file, with_item, with_items}
 use Rattle.suite_top.specs.Telling.{Telling, mode_of, placement_of, kept_of}
 use Rattle.file_commands.specs.Manifests.{manifest_limit}
-use Rattle.suite_top.specs.Kept.{keep_of}
+use Rattle.suite_top.specs.KeptItems.{keep_of}
 use Rattle.suite_top.specs.Run.{start_line, opening, boot_fault, mode_outcome, booted_outcome, brought_outcome, files_outcome, manifest_outcome, run_outcome}
 
 -- a relation of both outcomes holds if it holds of equal early ends, and stays behind a load

@@ -26,7 +26,7 @@ use Rattle.file_commands.specs.Arguments.{Invocation}
 use Rattle.file_commands.specs.Items.{has_file}
 use Rattle.file_commands.specs.HostCourse.{AreLoads, after_answer, after_answers}
 use Rattle.suite_top.specs.Telling.{Report}
-use Rattle.suite_top.specs.Kept.{text_or_none, kept_text}
+use Rattle.suite_top.specs.KeptItems.{text_or_none, kept_text}
 use Rattle.suite_top.specs.Result.{command_outcome}
 use Rattle.suite_top.specs.Run.{start_line, opening, run_outcome}
 use Rattle.suite_top.specs.Call.{Call, outcome_of}

@@ -12,7 +12,7 @@ use Rattle.machine_world.specs.Families.{ready_pids}
 use Rattle.machine_world.specs.Event.{Trace, Outcome, went, strays, full, idle, ended, ask_of, event}
 use Rattle.machine_world.specs.Turns.{Walk, End, remains_at, traced, turned, turn, going_on, quantum_turn, turns}
 use Rattle.machine_world.specs.Rows.{row}
-use Rattle.machine_world.proofs.Kept.{Answers}
+use Rattle.machine_world.proofs.EachChange.{Answers}
 use Rattle.machine_world.proofs.ByEvents.{Answered, Happened, Keeps, Went, by_event, by_turns}
 use Rattle.flat_machine.specs.Runs.{repeated}
 

@@ -17,7 +17,7 @@ use Rattle.file_commands.specs.Load.{at_once, behind, with_limited, with_load}
 use Rattle.run_setup.specs.Brought.{Brought, FaultAt, nothing_brought, all_brought}
 use Rattle.file_commands.specs.Items.{load_limit, files_limit, has_file, with_item, with_items}
 use Rattle.file_commands.specs.Manifests.{manifest_limit}
-use Rattle.suite_top.specs.Kept.{keep_of}
+use Rattle.suite_top.specs.KeptItems.{keep_of}
 use Rattle.suite_top.specs.Run.{start_line, opening, mode_outcome, booted_outcome, brought_outcome, files_outcome, items_outcome, manifest_outcome, run_outcome}
 use Rattle.command_laws.specs.Booted.{Booted}
 use Rattle.command_laws.specs.RunLaws.{Opens, IsThere, behind_item, AreThere, opened_outcome, IsStop, IsEarly, RunsWhereItOpens, OpensWhereItStops, RunsStopOrEndEarly}

@@ -14,7 +14,7 @@ use Rattle.file_commands.specs.Arguments.{RunOptions}
 use Rattle.file_commands.specs.Outcome.{Outcome, Inputs}
 use Rattle.suite_top.specs.Telling.{Telling, Report}
 use Rattle.suite_top.specs.Report.{own_dumps, memory_dumps, notes_text, report_text, stop_word, stop_line}
-use Rattle.suite_top.specs.Kept.{keep_of}
+use Rattle.suite_top.specs.KeptItems.{keep_of}
 use Rattle.suite_top.specs.Run.{mode_outcome, run_outcome}
 use Rattle.suite_top.proofs.RunOutcomes.{told_status}
 use Rattle.command_laws.specs.RunLaws.{Opens, IsStop, opened_outcome}

@@ -3,7 +3,7 @@ use Rattle.std.specs.Prelude.{◌≡◌, List, ℕ, Some}
 use Rattle.file_commands.specs.Arguments.{RunOptions, run, command_of}
 use Rattle.file_commands.specs.Delivery.{TookAll}
 use Rattle.suite_top.specs.Telling.{Report}
-use Rattle.suite_top.specs.Kept.{keep_of}
+use Rattle.suite_top.specs.KeptItems.{keep_of}
 use Rattle.suite_top.specs.Call.{Call, MeetsOutcome}
 use Rattle.suite_top.specs.StatusLaws.{IsPerformed}
 use Rattle.command_laws.specs.Booted.{DoesAsAlone, EndsAsAlone}

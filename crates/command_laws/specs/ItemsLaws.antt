@@ -10,7 +10,7 @@ use Rattle.alone_laws.specs.Stays.{Stay}
 use Rattle.file_commands.specs.Outcome.{Outcome, Inputs}
 use Rattle.file_commands.specs.Arguments.{KeptItems, RunOptions, run, command_of}
 use Rattle.suite_top.specs.Telling.{Report}
-use Rattle.suite_top.specs.Kept.{text_or_none, kept_text}
+use Rattle.suite_top.specs.KeptItems.{text_or_none, kept_text}
 use Rattle.suite_top.specs.Run.{run_outcome}
 use Rattle.suite_top.specs.Call.{Call, OverFiles}
 use Rattle.command_laws.specs.Booted.{booted_stays}

@@ -12,7 +12,7 @@ use Rattle.file_commands.specs.Load.{behind}
 use Rattle.file_commands.specs.Items.{load_limit, files_limit, has_file}
 use Rattle.file_commands.specs.Manifests.{manifest_limit}
 use Rattle.suite_top.specs.Telling.{Telling, mode_of, placement_of, kept_of}
-use Rattle.suite_top.specs.Kept.{keep_of, kept_requests}
+use Rattle.suite_top.specs.KeptItems.{keep_of, kept_requests}
 use Rattle.suite_top.specs.Run.{mode_ending, stopped_world, run_outcome}
 use Rattle.command_laws.specs.Booted.{Booted, DoesAsAlone, EndsAsAlone, WaitsToTheEnd, HasWorldsInOrder, HasRegularWorlds}
 

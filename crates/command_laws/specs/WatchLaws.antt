@@ -10,7 +10,7 @@ use Rattle.flat_machine.specs.Runs.{repeated}
 use Rattle.flat_machine.specs.Hits.{hits, hits_in_memory}
 use Rattle.file_commands.specs.Outcome.{Inputs}
 use Rattle.file_commands.specs.Arguments.{RunOptions, run}
-use Rattle.suite_top.specs.Kept.{keep_of}
+use Rattle.suite_top.specs.KeptItems.{keep_of}
 use Rattle.suite_top.specs.Report.{notes_text}
 use Rattle.suite_top.specs.Watched.{watched_text}
 use Rattle.suite_top.specs.Result.{command_outcome}

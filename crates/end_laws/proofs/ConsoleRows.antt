@@ -33,7 +33,7 @@ use Rattle.machine_world.specs.PathCalls.{path_of, changes_tree, remove_folder, 
 use Rattle.machine_world.specs.Free.{free_runs_in}
 use Rattle.machine_world.specs.MapCalls.{in_copy, in_free_run, maps, or_own, mapped, file_side, mmap2_row, unmaps, munmap_row}
 use Rattle.machine_world.specs.Rows.{yield_row, brk_row, asks_pid, row}
-use Rattle.machine_world.proofs.Kept.{Answers, by_test, by_if, by_fault, by_ok, by_view, by_free, by_path}
+use Rattle.machine_world.proofs.EachChange.{Answers, by_test, by_if, by_fault, by_ok, by_view, by_free, by_path}
 use Rattle.machine_world.proofs.Refused.{is_refused}
 use Rattle.end_laws.specs.Console.{is_write, is_console, takes_output}
 

@@ -5,9 +5,9 @@ use Rattle.vfork_exec.specs.Keyed.{Falls}
 use Rattle.fd_tables.specs.declared.files.Files.TheInside.{Inside}
 use Rattle.fd_tables.specs.Files.{Pipe}
 use Rattle.fd_tables.specs.Pipes.{pipe_id}
-use Rattle.fd_tables.specs.Kept.{KeptFiles, spare_places}
+use Rattle.fd_tables.specs.Spare.{SpareFiles, spare_places}
 
-abbrev pub kept : Inside → KeptFiles
+abbrev pub kept : Inside → SpareFiles
 kept s = record {
   open_files = record {
     stdin = drop s.taken s.stdin.items;

@@ -1,5 +1,5 @@
 -- Files      open files and tables of descriptors: what a descriptor shows, and which numbers are free
--- Kept       open files as contracts see them, with what memory is kept for
+-- Spare      open files as contracts see them, with what memory is kept for
 -- Inside     what the fields of `Files` say
 -- Pipes      what a pipe shows, which pipes changed, and how their bytes and ends come and go
 -- Changes    how descriptors, open files and tables come and go
@@ -7,7 +7,7 @@
 -- Counts     how many descriptors share an open file, and how many open files hold a node
 -- CountLaws  that each change keeps both counts exact
 pub mod Files
-pub mod Kept
+pub mod Spare
 pub mod Inside
 pub mod Pipes
 pub mod Changes

@@ -1,7 +1,7 @@
 //! Files open, and descriptors are duplicated and closed.
 
 ghost use Rattle.std.specs.Prelude.{◌≡◌, ◌^◌, ◌<◌, ◌≤◌, IfOk, OnErr};
-ghost use Rattle.fd_tables.specs.Kept.{KeepsSpare, UsesOneFile};
+ghost use Rattle.fd_tables.specs.Spare.{KeepsSpare, UsesOneFile};
 ghost use Rattle.fd_tables.specs.Files.{free_number, lowest_free, view};
 ghost use Rattle.fd_tables.specs.Changes.{storage, with_open_file, closed, dropped, duplicated, replaced};
 ghost use Rattle.fd_tables.specs.Calls.{Opens, IsFull, IsNotMemory, dup_number, Duplicates, dup3_fault, close_fault, Does};

@@ -1,7 +1,7 @@
 //! All open files, and the tables of descriptors that share them.
 
 ghost use Rattle.std.specs.Prelude.{◌≡◌, ◌≤◌, length, IfOk};
-ghost use Rattle.fd_tables.specs.Kept.{KeepsSpare};
+ghost use Rattle.fd_tables.specs.Spare.{KeepsSpare};
 ghost use Rattle.fd_tables.specs.Files.{nothing_open, lowest_free, descriptor, handle_view, view};
 ghost use Rattle.fd_tables.specs.Changes.{moved, taken, with_descriptor};
 ghost use Rattle.fd_tables.specs.Calls.{view_or_errno};
@@ -35,9 +35,9 @@ pub struct Files {
 }
 
 impl Model for Files {
-    ghost use Rattle.fd_tables.specs.Kept.{KeptFiles};
+    ghost use Rattle.fd_tables.specs.Spare.{SpareFiles};
 
-    ghost Value = { KeptFiles };
+    ghost Value = { SpareFiles };
 
     ghost use Rattle.fd_tables.specs.Inside.{kept, IsRight};
 

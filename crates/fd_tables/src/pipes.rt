@@ -3,7 +3,7 @@
 ghost use Rattle.std.specs.Prelude.{◌≡◌, ℕ, ◌+◌, ◌≤◌, ◌<◌, ◌^◌, length, count_by, is_some, take, position, nat_le, IfOk, IfSome, OnErr, Some};
 ghost use Rattle.vfork_exec.specs.Keyed.{Falls, place_of};
 ghost use Rattle.fd_tables.specs.Inside.{Rises};
-ghost use Rattle.fd_tables.specs.Kept.{KeepsSpare};
+ghost use Rattle.fd_tables.specs.Spare.{KeepsSpare};
 ghost use Rattle.fd_tables.specs.Files.{free_number, two_free};
 ghost use Rattle.fd_tables.specs.Pipes.{most_held, pipe_id, pipe_view, pipe_bytes, pipe_taken, pipe_put, without_end, marked, with_pipe};
 ghost use Rattle.fd_tables.specs.Changes.{with_end, piped};

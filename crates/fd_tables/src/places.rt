@@ -2,7 +2,7 @@
 
 ghost use Rattle.std.specs.Prelude.{◌≡◌, ◌+◌, ◌≤◌, ◌^◌, length, IfOk, OnErr, slice_set};
 ghost use Rattle.fd_tables.specs.Files.{at_number, first_free, free_number, with_next};
-ghost use Rattle.fd_tables.specs.Kept.{spare_places};
+ghost use Rattle.fd_tables.specs.Spare.{spare_places};
 
 use std::alloc::AllocError;
 

@@ -1,7 +1,7 @@
 //! Tables come and go.
 
 ghost use Rattle.std.specs.Prelude.{◌≡◌, ◌||◌, [], ◌∷◌, ◌≤◌, IfOk, IsOk, OnErr};
-ghost use Rattle.fd_tables.specs.Kept.{KeepsSpare, UsesOneTable};
+ghost use Rattle.fd_tables.specs.Spare.{KeepsSpare, UsesOneTable};
 ghost use Rattle.fd_tables.specs.Files.{free_number};
 ghost use Rattle.fd_tables.specs.Changes.{storage, with_table, with_copy, exec_closed, without_table, shared, all_shared, all_closed, all_descriptors};
 

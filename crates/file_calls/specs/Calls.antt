@@ -6,7 +6,7 @@ use Rattle.call_log.specs.Values.{got_value}
 use Rattle.call_log.specs.Numbers as numbers
 use Rattle.mem_files.specs.Inodes.{Inodes}
 use Rattle.fd_tables.specs.Files.{OpenFiles}
-use Rattle.fd_tables.specs.Kept.{KeptFiles}
+use Rattle.fd_tables.specs.Spare.{SpareFiles}
 use Rattle.fd_tables.specs.Pipes.{pipe_taken}
 use Rattle.fd_tables.specs.Changes.{moved, taken, piped}
 use Rattle.machine_world.specs.World.{Rest}
@@ -56,7 +56,7 @@ abbrev pub DoesNotWait : Call → OpenFiles → Type 0
 DoesNotWait call files = (a : Ask) → MadeBy call a → a.rest.files ≡ files → WaitsOn (row a) None
 
 -- the files and the console that the world has
-pub record IsRest (rest : Rest) (nodes : Inodes) (kept : KeptFiles) (text : List ℕ) : Type 0 where
+pub record IsRest (rest : Rest) (nodes : Inodes) (kept : SpareFiles) (text : List ℕ) : Type 0 where
   pub tree : rest.tree ≡ nodes
   pub files : rest.files ≡ kept.open_files
   pub console : rest.console ≡ text
@@ -65,7 +65,7 @@ abbrev pub with_all : Rest → Inodes → OpenFiles → List ℕ → Rest
 with_all rest tree files console = record rest { tree = tree; files = files; console = console }
 
 -- a reply, and what is left of files and console; out of memory nothing changed
-abbrev pub ChangesFiles : Ask → Row → Inodes → KeptFiles → List ℕ → Inodes → KeptFiles → List ℕ → Result ℕ AllocError → Type 0
+abbrev pub ChangesFiles : Ask → Row → Inodes → SpareFiles → List ℕ → Inodes → SpareFiles → List ℕ → Result ℕ AllocError → Type 0
 ChangesFiles a row tree files console new_tree new_files new_console (Ok value) =
     row ≡ gives a value [] (with_all a.rest new_tree new_files.open_files new_console)
 ChangesFiles a row tree files console new_tree new_files new_console (Err error) =

@@ -1,7 +1,7 @@
 //! The calls that change files or descriptors, and write nothing into memory.
 
 ghost use Rattle.std.specs.Prelude.{OnErr};
-ghost use Rattle.fd_tables.specs.Kept.{KeepsSpare};
+ghost use Rattle.fd_tables.specs.Spare.{KeepsSpare};
 ghost use Rattle.machine_world.specs.Asks.{Ask};
 ghost use Rattle.machine_world.specs.Rows.{row};
 ghost use Rattle.file_calls.specs.Answers.{Answers};

@@ -1,7 +1,7 @@
 //! The calls that change descriptors alone.
 
 ghost use Rattle.std.specs.Prelude.{◌≡◌};
-ghost use Rattle.fd_tables.specs.Kept.{KeepsSpare};
+ghost use Rattle.fd_tables.specs.Spare.{KeepsSpare};
 ghost use Rattle.fd_tables.specs.Changes.{storage};
 ghost use Rattle.machine_world.specs.Asks.{Ask, with_files, storage_of, with_storage};
 ghost use Rattle.machine_world.specs.Descriptors.{dup_row, dup3_row, close_row};

@@ -1,7 +1,7 @@
 //! openat.
 
 ghost use Rattle.std.specs.Prelude.{◌≡◌, ◌≤◌, IsSome, Some, OnErr};
-ghost use Rattle.fd_tables.specs.Kept.{KeepsSpare};
+ghost use Rattle.fd_tables.specs.Spare.{KeepsSpare};
 ghost use Rattle.fd_tables.specs.Changes.{storage, opened};
 ghost use Rattle.fd_tables.specs.Files.{lowest_free};
 ghost use Rattle.machine_world.specs.Asks.{Ask, storage_of, with_storage};

@@ -5,7 +5,7 @@ ghost use Rattle.mem_files.specs.declared.fault.FileFault.TheVariants.{Memory};
 ghost use Rattle.mem_files.specs.Inodes.{size_of};
 ghost use Rattle.machine_world.specs.Asks.{Ask, with_files, storage_of, with_storage};
 ghost use Rattle.machine_world.specs.Transfers.{write_row, writev_row, pipe_write, pipe_room, write_waits, node_write, write_position};
-ghost use Rattle.fd_tables.specs.Kept.{KeepsSpare};
+ghost use Rattle.fd_tables.specs.Spare.{KeepsSpare};
 ghost use Rattle.fd_tables.specs.Pipes.{most_held};
 ghost use Rattle.fd_tables.specs.Changes.{storage, moved};
 ghost use Rattle.file_calls.specs.Answers.{Answers};

@@ -29,11 +29,11 @@ use Rattle.kept_parts.specs.Reach.{Reaches}
 use Rattle.kept_parts.specs.Regular.{Regular, HasSpace}
 use Rattle.kept_parts.specs.Copies.{CopiesHold}
 use Rattle.kept_parts.specs.Stands.{About, later, private_bytes, private_of, live_spaces, process_of, world_of}
-use Rattle.kept_parts.proofs.Worlds.{find_space, change_space, find_process, change_process}
-use Rattle.kept_parts.proofs.Apart.{others_keep}
-use Rattle.kept_parts.proofs.Stays.{regular_stays, set_kept}
-use Rattle.kept_parts.proofs.CopiesKept.{copies_frozen}
-use Rattle.kept_parts.proofs.Recorded.{regular_recorded}
+use Rattle.kept_parts.proofs.Common.FoundInWorld.{find_space, change_space, find_process, change_process}
+use Rattle.kept_parts.proofs.Common.SpacesApart.{others_keep}
+use Rattle.kept_parts.proofs.Common.StaysRegular.{regular_stays, set_kept}
+use Rattle.kept_parts.proofs.Copies.SameBytes.{copies_frozen}
+use Rattle.kept_parts.proofs.Common.Recorded.{regular_recorded}
 
 -- a process with what is kept of it
 pub record Entered (s : Listed Task) (pid : ℕ) (task : Task) : Type 0 where

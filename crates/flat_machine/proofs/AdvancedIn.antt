@@ -37,11 +37,11 @@ use Rattle.kept_parts.specs.Regular.{Regular, HasSpace, IsRegular}
 use Rattle.kept_parts.specs.Copies.{CopiesHold}
 use Rattle.kept_parts.specs.Stands.{About, later, private_bytes, private_of, live_spaces, process_of, world_of}
 use Rattle.kept_parts.specs.InMemory.{physical_of}
-use Rattle.kept_parts.proofs.Shows.{shown_as, shows}
-use Rattle.kept_parts.proofs.Worlds.{find_space, find_process}
+use Rattle.kept_parts.proofs.Common.ShownBytes.{shown_as, shows}
+use Rattle.kept_parts.proofs.Common.FoundInWorld.{find_space, find_process}
 use Rattle.flat_machine.specs.State.{is_whole}
 use Rattle.flat_machine.specs.LeavesIn.{HaltsWithin}
-use Rattle.kept_parts.proofs.Abouts.{some_about}
+use Rattle.kept_parts.proofs.Common.AnyRun.{some_about}
 use Rattle.flat_machine.proofs.Within.{writable_own, table_inside}
 use Rattle.flat_machine.proofs.Passed.{AsTable, as_table, owned_ran, owned_frozen}
 use Rattle.flat_machine.proofs.Advanced.{Ranged, after, entered, home_of, has_space, halts_within, after_regular, after_ready, lives_in, has_in, procs_in, frozen_in, after_copies, left, after_leads, after_halts}

@@ -16,7 +16,7 @@ use Rattle.kept_parts.specs.Kept.{Kept, nothing_yet}
 use Rattle.region_watch.specs.Private.{in_pages}
 use Rattle.kept_parts.specs.Stands.{About, live_spaces, world_of}
 use Rattle.kept_parts.specs.InMemory.{header_of, headers_of, physical_of}
-use Rattle.kept_parts.proofs.Shows.{showing_of}
+use Rattle.kept_parts.proofs.Common.ShownBytes.{showing_of}
 
 -- the header of a program that is there
 pub header_at : (flats : List Values) (i : ℕ) (f : Values) → slice_get flats i ≡ Some f → slice_get (headers_of flats) i ≡ Some (header_of f)

@@ -10,7 +10,7 @@ use Rattle.region_watch.specs.declared.mode.Mode.TheVariants.{Halt, GoOn}
 use Rattle.syscall_layer.specs.Parts.{halted_at}
 use Rattle.memory_world.specs.Physical.{has_stray}
 use Rattle.kept_parts.specs.Noted.{first_noted}
-use Rattle.kept_parts.proofs.NotedStrays.{stray_first, stray_reversed}
+use Rattle.kept_parts.proofs.Common.NotedStrays.{stray_first, stray_reversed}
 use Rattle.kept_parts.specs.Copies.{HoldsFiles}
 use Rattle.waits_laws.specs.Laws.{IsOrdered}
 use Rattle.flat_machine.specs.declared.run.End.{End as Told}

@@ -19,8 +19,8 @@ use Rattle.kept_parts.specs.Regular.{Regular, HasSpace}
 use Rattle.call_bytes.specs.Reading.{appended}
 use Rattle.kept_parts.specs.InMemory.{physical_of}
 use Rattle.kept_parts.specs.Stands.{About, private_bytes, process_of, world_of}
-use Rattle.kept_parts.proofs.Worlds.{find_space, find_process}
-use Rattle.kept_parts.proofs.Reached.{reached_bytes, reached_pages}
+use Rattle.kept_parts.proofs.Common.FoundInWorld.{find_space, find_process}
+use Rattle.kept_parts.proofs.Common.WholeMemory.{reached_bytes, reached_pages}
 use Rattle.flat_machine.specs.OwnBytes.{read_or_none, bytes_in, bytes_of, own_bytes, bytes_for, memory_bytes}
 use Rattle.flat_machine.proofs.Advanced.{entered, has_space}
 

@@ -236,6 +236,10 @@ pub err_within : (headers : List (List ℕ)) (a : About) (old new : Kept) (pid :
 err_within headers a old new pid (Ok done) is same = absurd cc
 err_within headers a old new pid (Err error) is same = same
 
+-- an access outside memory ends its process, and so the turn
+pub ended_turn : (headers : List (List ℕ)) (a : About) (old new : Kept) (pid : ℕ) (o : Outcome_in) (s : Served) → s ≡ served.Ended → GoesIn headers a o old new pid s → CarriedIn headers a o old new pid (Ok after.TurnEnds)
+ended_turn headers a old new pid o s is ended = ended_in headers a old new pid old o (subst (GoesIn headers a o old new pid) is ended)
+
 -- of an end by a signal
 pub dies_not : (headers : List (List ℕ)) (a : About) (old new : Kept) (pid : ℕ) (o : Outcome_in) (r : Result After AllocError) → IsErr r → new ≡ old → CarriedIn headers a o old new pid r
 dies_not headers a old new pid o (Ok done) is same = absurd cc

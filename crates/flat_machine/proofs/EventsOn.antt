@@ -28,13 +28,13 @@ use Rattle.kept_parts.specs.Kept.{Kept}
 use Rattle.kept_parts.specs.Regular.{IsRegular}
 use Rattle.kept_parts.specs.Stands.{About, later, world_of}
 use Rattle.kept_parts.specs.InMemory.{headers_of, physical_of, with_range, without_newest}
-use Rattle.kept_parts.proofs.Abouts.{about_with, some_are_flats}
+use Rattle.kept_parts.proofs.Common.AnyRun.{about_with, some_are_flats}
 use Rattle.syscall_layer.specs.Parts.{RunParts}
 use Rattle.watch_points.specs.declared.hits.Hit.{Hit}
 use Rattle.watch_points.specs.declared.point.PointKind.{PointKind}
 use Rattle.watch_points.specs.declared.span.Span.{Span}
 use Rattle.watch_points.specs.Points.{Found, with_hits}
-use Rattle.watch_points.proofs.Kept.{with_hits-nil}
+use Rattle.watch_points.proofs.HitLists.{with_hits-nil}
 use Rattle.flat_machine.specs.declared.turn.After.{After}
 use Rattle.flat_machine.specs.declared.turn.After.TheVariants as after
 use Rattle.flat_machine.specs.State.{is_whole}

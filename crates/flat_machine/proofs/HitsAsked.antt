@@ -23,7 +23,7 @@ use Rattle.watch_points.specs.declared.hits.Hit.{Hit}
 use Rattle.watch_points.specs.declared.point.PointKind.{PointKind}
 use Rattle.watch_points.specs.declared.span.Span.{Span}
 use Rattle.watch_points.specs.Points.{hits_in}
-use Rattle.watch_points.proofs.Kept.{hits_in-append}
+use Rattle.watch_points.proofs.HitLists.{hits_in-append}
 
 -- these hits are those if the instruction is carried out, and none else
 abbrev Sure : Meaning → (hits whole : List Hit) → Type 0

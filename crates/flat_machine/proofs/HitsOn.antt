@@ -26,7 +26,7 @@ use Rattle.watch_points.specs.declared.hits.Hit.{Hit}
 use Rattle.watch_points.specs.declared.point.PointKind.{PointKind}
 use Rattle.watch_points.specs.declared.span.Span.{Span}
 use Rattle.watch_points.specs.Points.{Found, hits_in, with_hits}
-use Rattle.watch_points.proofs.Kept.{hits_in-nil, hits_in-append, with_hits-nil, with_hits-append}
+use Rattle.watch_points.proofs.HitLists.{hits_in-nil, hits_in-append, with_hits-nil, with_hits-append}
 use Rattle.flat_machine.specs.Hits.{asked_in_memory, asked_of_in, event_asked, event_asked_in, behind, behind_in, turn_hits, turn_hits_in}
 use Rattle.flat_machine.specs.HitsLeft.{HitsLead}
 use Rattle.flat_machine.proofs.HitsAsked.{called_quiet, trapped_quiet, refused_quiet}

@@ -13,7 +13,7 @@ use Rattle.watch_points.specs.declared.hits.Hit.{Hit}
 use Rattle.watch_points.specs.declared.point.PointKind.{PointKind}
 use Rattle.watch_points.specs.declared.span.Span.{Span}
 use Rattle.watch_points.specs.Points.{Found, with_hits}
-use Rattle.watch_points.proofs.Kept.{with_hits-nil, with_hits-append}
+use Rattle.watch_points.proofs.HitLists.{with_hits-nil, with_hits-append}
 use Rattle.flat_machine.specs.declared.run.End.{End as Told}
 use Rattle.flat_machine.specs.State.{State, world}
 use Rattle.flat_machine.specs.Runs.{repeated, gone_through}

@@ -6,7 +6,7 @@ use Rattle.machine_world.specs.World.{Process, Rest, World}
 use Rattle.machine_world.specs.Asks.{Ask, Row, replies, waits}
 use Rattle.machine_world.specs.Event.{Trace, went, ended, ask_of, event}
 use Rattle.machine_world.specs.Rows.{row}
-use Rattle.machine_world.proofs.Kept.{Answers}
+use Rattle.machine_world.proofs.EachChange.{Answers}
 use Rattle.machine_world.proofs.ByEvents.{Answered, Happened, Keeps, by_event}
 use Rattle.memory_world.specs.Physical.{has_stray}
 use Rattle.memory_world.specs.Growth.{Adds}

@@ -11,7 +11,7 @@ use Rattle.region_watch.specs.Private.{only, physical, own_bytes, frozen, in_pag
 use Rattle.region_watch.specs.Instructions.{ran, instructions, all_asked}
 use Rattle.region_watch.specs.declared.mode.Mode.TheVariants.{Halt, GoOn}
 use Rattle.kept_parts.specs.Reach.{Reaches, whole_page, whole_table}
-use Rattle.kept_parts.proofs.Reached.{owns_whole}
+use Rattle.kept_parts.proofs.Common.WholeMemory.{owns_whole}
 
 -- a table of just the bytes within reach, which a watch of this mode over another table lets pass
 pub record AsTable (reach : Mode) (pages : ℕ) (h : Held) (mode : Mode) (seen : List PageOwner) : Type 0 where

@@ -17,9 +17,9 @@ use Rattle.machine_world.proofs.RunLaws.{none_left}
 use Rattle.kept_parts.specs.declared.task.Task.{Task}
 use Rattle.kept_parts.specs.Kept.{Kept}
 use Rattle.kept_parts.specs.Stands.{About, process_of, world_of}
-use Rattle.kept_parts.proofs.Families.{ready_is, falls_is}
-use Rattle.kept_parts.proofs.Worlds.{find_process}
-use Rattle.kept_parts.proofs.Abouts.{some_about}
+use Rattle.kept_parts.proofs.Common.ProcessList.{ready_is, falls_is}
+use Rattle.kept_parts.proofs.Common.FoundInWorld.{find_process}
+use Rattle.kept_parts.proofs.Common.AnyRun.{some_about}
 
 -- ---- who may run
 

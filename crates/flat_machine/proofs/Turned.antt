@@ -20,7 +20,7 @@ use Rattle.flat_machine.specs.declared.run.End.TheVariants as told
 use Rattle.flat_machine.specs.declared.turn.After.TheVariants as after
 use Rattle.flat_machine.specs.Runs.{StandsStill}
 use Rattle.flat_machine.specs.Leaves.{Carried, CarriedOrEnds, TurnStops, TurnLeaves}
-use Rattle.kept_parts.proofs.Abouts.{some_about}
+use Rattle.kept_parts.proofs.Common.AnyRun.{some_about}
 
 -- behind so many events of a process the parts are others
 abbrev pub Reached : Kind → List Values → ℕ → Kept → ℕ → Kept → Type 0

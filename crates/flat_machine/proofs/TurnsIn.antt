@@ -30,7 +30,7 @@ use Rattle.flat_machine.specs.declared.turn.After.TheVariants as after
 use Rattle.flat_machine.specs.State.{is_whole}
 use Rattle.flat_machine.specs.Leaves.{Carried}
 use Rattle.flat_machine.specs.LeavesIn.{EventIn, StandsWithin, HaltsWithin, TurnEndsIn, step_within, StandsStillIn, TurnLeavesIn}
-use Rattle.kept_parts.proofs.Abouts.{some_about}
+use Rattle.kept_parts.proofs.Common.AnyRun.{some_about}
 use Rattle.flat_machine.proofs.NotedIn.{went_quiet}
 use Rattle.flat_machine.proofs.Turned.{later_none, later_on}
 

@@ -20,7 +20,7 @@ use Rattle.kept_parts.specs.Flats.{AreFlats}
 use Rattle.kept_parts.specs.Kept.{Kept}
 use Rattle.kept_parts.specs.Stands.{About, later, world_of}
 use Rattle.kept_parts.specs.InMemory.{headers_of, physical_of}
-use Rattle.kept_parts.proofs.Abouts.{about_with, some_are_flats}
+use Rattle.kept_parts.proofs.Common.AnyRun.{about_with, some_are_flats}
 use Rattle.watch_points.specs.declared.hits.Hit.{Hit}
 use Rattle.watch_points.specs.declared.point.PointKind.{PointKind}
 use Rattle.watch_points.specs.declared.span.Span.{Span}

@@ -19,7 +19,7 @@ use Rattle.kept_parts.specs.Flats.{AreFlats}
 use Rattle.kept_parts.specs.Kept.{Kept}
 use Rattle.kept_parts.specs.Stands.{About, later, world_of}
 use Rattle.kept_parts.specs.InMemory.{physical_of}
-use Rattle.kept_parts.proofs.Abouts.{some_about}
+use Rattle.kept_parts.proofs.Common.AnyRun.{some_about}
 use Rattle.flat_machine.specs.declared.turn.After.{After}
 use Rattle.flat_machine.specs.declared.turn.After.TheVariants as after
 use Rattle.flat_machine.specs.Leaves.{Carried, CarriedOrPast}

@@ -33,9 +33,6 @@ use std::alloc::AllocError;
 use syscall_layer::{Parts, call_event_law, serve};
 use watch_points::{Hits, Span, Watcher};
 
-/// The signal of an access outside memory.
-const SIGSEGV: u8 = 11;
-
 /// What comes of an event.
 #[derive(Clone, Copy, PartialEq, Eq)]
 enum After {
@@ -77,13 +74,11 @@ fn refused(parts: &mut Parts, pid: u32, access: Access) -> Result<After, AllocEr
     ensures memory { has_stray parts.old.kept.notes ≡ true → (headers : List (List ℕ)) → (a : About) →
         CarriedIn headers a (died_in (physical_of headers a parts.old.kept) pid outside) parts.old.kept parts.new.kept pid result }
 {
-    match parts.watch_mode() {
-        Mode::Halt => Ok(After::Strays(access)),
-        Mode::GoOn => {
-            parts.end_by_signal(pid, SIGSEGV)?;
-            Ok(After::TurnEnds)
-        }
-    }
+    let served = parts.beyond_reach(pid, access)?;
+    let Served::Stray(access) = served else {
+        return Ok(After::TurnEnds);
+    };
+    Ok(After::Strays(access))
 }
 
 /// The system call at which a process stands that may run. In a run that goes on its first range that strays is noted.

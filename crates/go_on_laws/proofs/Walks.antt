@@ -14,7 +14,7 @@ use Rattle.machine_world.specs.Families.{MayRun, ready_pids}
 use Rattle.machine_world.specs.Asks.{Ask, Row, replies, waits}
 use Rattle.machine_world.specs.Event.{Trace, Outcome, went, strays, full, idle, noted, ended, ask_of, event, stray}
 use Rattle.machine_world.specs.Turns.{Walk, End, all_ended, stuck, out_of_quanta, stray_at, log_full, remains_at, traced, turned, turn, going_on, none_runs, quantum_turn, last_end, turns}
-use Rattle.machine_world.proofs.Kept.{Answers}
+use Rattle.machine_world.proofs.EachChange.{Answers}
 use Rattle.machine_world.proofs.ByEvents.{Went, Answered, Happened, by_event}
 use Rattle.machine_world.proofs.Runnable.{may_run_still, ready_found}
 use Rattle.alone_laws.specs.Sound.{IsSound}

@@ -35,26 +35,33 @@ use phys_mem::{PAGE, PhysMem};
 use recordings::Recording;
 use std::alloc::{AllocError, Global};
 
+/// What is to be mapped in which space.
+#[derive(Clone, Copy)]
+struct Asked {
+    /// The number of the space.
+    space: u32,
+    want: Want,
+}
+
 /// Maps what is wanted in a space that lives.
 fn map_in<F: Fn(&[Run], u32) -> Option<usize>>(
     spaces: &mut [Option<Space>],
-    number: u32,
     regions: &mut Regions,
     mem: &mut PhysMem,
     tree: &Tree,
-    want: Want,
+    asked: Asked,
     chooser: &Chooser<F>,
 ) -> Result<u32, MapFault>
     requires chooser { IsChooser F.pre F.post chooser.now }
-    requires home { HasSpace spaces.old number }
-    requires fits { CanMap number spaces.old regions.old.regions mem.old }
-    requires want { AsksPages want }
+    requires home { HasSpace spaces.old asked.space }
+    requires fits { CanMap asked.space spaces.old regions.old.regions mem.old }
+    requires want { AsksPages asked.want }
     ensures ids { regions.new.starts ≡ regions.old.starts }
-    ensures maps { (h : Held) → slice_get spaces.old number ≡ Some (Some h) →
-        MapsIn (kind_of chooser.now) (bytes_of tree.now (file_in want)) want number h spaces.old spaces.new regions.old.regions regions.new.regions mem.old mem.new result }
+    ensures maps { (h : Held) → slice_get spaces.old asked.space ≡ Some (Some h) →
+        MapsIn (kind_of chooser.now) (bytes_of tree.now (file_in asked.want)) asked.want asked.space h spaces.old spaces.new regions.old.regions regions.new.regions mem.old mem.new result }
 {
-    match &mut spaces[number as usize] {
-        Some(space) => space.map(regions, mem, tree, want, chooser),
+    match &mut spaces[asked.space as usize] {
+        Some(space) => space.map(regions, mem, tree, asked.want, chooser),
         None => unreachable!(),
     }
 }
@@ -100,28 +107,27 @@ fn file_pages(alloc: Global, bytes: &[u8], first: u32, pages: u32) -> Result<Vec
 fn bring(
     alloc: Global,
     recording: &mut Recording,
-    space: u32,
     regions: &Regions,
     tree: &Tree,
-    want: Want,
+    asked: Asked,
 ) -> Result<bool, AllocError>
     requires few { with_brought recording.old.brought 0 < 2 ^ 63 }
-    requires want { AsksPages want }
+    requires want { AsksPages asked.want }
     ensures same { OnErr result (recording.new ≡ recording.old) }
-    ensures brings { IfOk result (λ done. recording.new ≡ record recording.old { brought = recording.old.brought ++ (if done then wanted_bytes tree.now want ∷ [] else []) }) }
+    ensures brings { IfOk result (λ done. recording.new ≡ record recording.old { brought = recording.old.brought ++ (if done then wanted_bytes tree.now asked.want ∷ [] else []) }) }
     ensures done { IfOk result (λ done. (s : MapState) → (kind : Kind) → (bytes : List ℕ) → s.regions ≡ regions.now.regions →
-        done ≡ (is_recorded recording.old space && is_file want && is_some (mapped_in s kind bytes want))) }
+        done ≡ (is_recorded recording.old asked.space && is_file asked.want && is_some (mapped_in s kind bytes asked.want))) }
 {
     let Want::File {
         pages,
         first,
         id,
         ..
-    } = want
+    } = asked.want
     else {
         return Ok(false);
     };
-    if !recording.has(space) || !fits(regions, want) {
+    if !recording.has(asked.space) || !fits(regions, asked.want) {
         return Ok(false);
     }
     recording.bring(file_pages(alloc, tree.bytes(id), first, pages)?)?;
@@ -180,22 +186,18 @@ impl KeptParts {
         self.log.reserve(1)?;
         let number = self.procs.get(call.pid).space;
         let alloc = *self.console.allocator();
-        let bringing = bring(
-            alloc,
-            &mut self.recording,
-            number,
-            &self.regions,
-            &self.tree,
+        let asked = Asked {
+            space: number,
             want,
-        );
+        };
+        let bringing = bring(alloc, &mut self.recording, &self.regions, &self.tree, asked);
         let brings = or_unreserve(&mut self.log, bringing)?;
         let mapped = map_in(
             &mut self.spaces,
-            number,
             &mut self.regions,
             &mut self.mem,
             &self.tree,
-            want,
+            asked,
             chooser,
         );
         settle_brought(&mut self.recording, brings, mapped);

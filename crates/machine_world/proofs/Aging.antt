@@ -20,7 +20,7 @@ use Rattle.machine_world.specs.Transfers.{write_position}
 use Rattle.machine_world.specs.Rows.{row}
 use Rattle.machine_world.specs.Event.{ask_of, ended, event}
 use Rattle.machine_world.specs.Ages.{AreChanged, Follows, most_changes, EventsAgeFiles}
-use Rattle.machine_world.proofs.Kept.{Answers, Kept, opened_as}
+use Rattle.machine_world.proofs.EachChange.{Answers, EachChange, opened_as}
 use Rattle.machine_world.proofs.ByRows.{by_rows}
 use Rattle.machine_world.proofs.ByEvents.{Went, Answered, Happened, by_event}
 use Rattle.machine_world.proofs.NodesAge.{Since, since_itself, since_on, since_more, held_ages, let_go_ages, truncated_ages, written_ages, folder_ages, file_ages, unlinked_ages}
@@ -124,7 +124,7 @@ module _ (a : Ask) (most : ℕ) (low : AreChanged most a.rest.tree) (few : most 
   unfolding opened
   opened_ages fd node nodes h = since_held a.rest.tree (most + 1) nodes node h
 
-  kept_later : Kept (λ rest. Later rest.tree) a
+  kept_later : EachChange (λ rest. Later rest.tree) a
   kept_later = record {
     dup = λ free is. unchanged;
     dup3 = λ none. by_replaced Later lets (storage_of a.rest) (table_of a) (arg a 0) (arg a 1) (arg a 2 == close_on_exec) unchanged;

@@ -16,7 +16,7 @@ use Rattle.machine_world.specs.Event.{Trace, Outcome, went, awake, strays, full,
 use Rattle.machine_world.specs.Others.{KeepsOwn, IsKept, LeavesOthers, EventsLeaveOthers}
 use Rattle.machine_world.proofs.States.{find_has}
 use Rattle.machine_world.proofs.Awake.{woke, find_roused}
-use Rattle.machine_world.proofs.Kept.{Answers}
+use Rattle.machine_world.proofs.EachChange.{Answers}
 use Rattle.machine_world.proofs.ByRows.{by_rows}
 use Rattle.machine_world.proofs.ByEvents.{Went, Answered, Happened, loading_of, by_effect}
 use Rattle.machine_world.proofs.OtherTables.{OthersAsIn, other_tables, other-without_table, other-exec_closed, other-with_copy}

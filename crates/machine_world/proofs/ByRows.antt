@@ -1,4 +1,4 @@
--- What holds of all that is outside of the space, as it is and after each change of `Kept`, holds of it after every row.
+-- What holds of all that is outside of the space, as it is and after each change of `EachChange`, holds of it after every row.
 use Rattle.std.proofs.Common.{◌≡◌, ℕ, ◌+◌, ◌*◌, Bool, true, false, not, List, [], ◌∷◌, length, map, take, drop, Option, Some, None, Result, Ok, refl, subst}
 use Rattle.std.specs.Prelude.{◌==◌, ◌||◌, ◌&&◌, ◌^◌, nat_lt, if◌then◌else◌}
 use Rattle.std.specs.List.{range_with_len}
@@ -30,9 +30,9 @@ use Rattle.machine_world.specs.PathCalls.{path_of, changes_tree, remove_folder, 
 use Rattle.machine_world.specs.Free.{free_runs_in}
 use Rattle.machine_world.specs.MapCalls.{in_copy, in_free_run, maps, or_own, mapped, file_side, mmap2_row, unmaps, munmap_row}
 use Rattle.machine_world.specs.Rows.{yield_row, brk_row, asks_pid, row}
-use Rattle.machine_world.proofs.Kept.{Answers, moves, Kept, by_test, by_if, by_fault, by_ok, by_view, by_free, by_path}
+use Rattle.machine_world.proofs.EachChange.{Answers, moves, EachChange, by_test, by_if, by_fault, by_ok, by_view, by_free, by_path}
 
-module _ (P : Rest → Type 0) (a : Ask) (kept : Kept P a) (same : P a.rest) where
+module _ (P : Rest → Type 0) (a : Ask) (kept : EachChange P a) (same : P a.rest) where
   by_dup : Answers P (dup_row a)
   unfolding dup_row
   by_dup = by_ok P a same (dup_number (view_of a (arg a 0)) (free_of a)) _ kept.dup

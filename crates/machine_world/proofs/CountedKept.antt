@@ -25,7 +25,7 @@ use Rattle.machine_world.proofs.Counted.{HasCounted, are_counted, behind-closed,
 use Rattle.machine_world.proofs.FewOpen.{free_below, two_below}
 use Rattle.machine_world.proofs.FreeNumbers.{free_within}
 use Rattle.machine_world.proofs.InOrder.{free_is, lowest_place, new_low}
-use Rattle.machine_world.proofs.Kept.{Kept, moves, opened_as, fitting}
+use Rattle.machine_world.proofs.EachChange.{EachChange, moves, opened_as, fitting}
 use Rattle.machine_world.proofs.OrderKept.{room_calls, noted_call}
 use Rattle.machine_world.proofs.Steady.{steady-opened, length-moved, length-taken, length-duplicated, length-piped, length-pipe_taken, length-pipe_put, length-with_copy}
 use Rattle.call_log.specs.Notes.{most_calls}
@@ -62,7 +62,7 @@ module _ (a : Ask) (most : ℕ) (small : most < 2 ^ 27) (h : HasCounted most a.r
         tables = omega (arith, still.tables, ap (λ (ts : List (Option Table)). length ts) (opened_tables fd node nodes), h.tables);
       }
 
-  pub rows_keep_counted : Kept (λ rest. HasCounted most rest.files) a
+  pub rows_keep_counted : EachChange (λ rest. HasCounted most rest.files) a
   rows_keep_counted = record {
     dup = λ free is.
         let place = lowest_place a.rest.files t free (counts.whole t) (free_is (view_of a (arg a 0)) (free_of a) free is) in

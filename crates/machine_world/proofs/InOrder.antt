@@ -27,7 +27,7 @@ use Rattle.machine_world.specs.Asks.{Ask, arg, view_of, free_of, with_tree, with
 use Rattle.machine_world.specs.Descriptors.{table_of, close_on_exec}
 use Rattle.machine_world.specs.PathCalls.{path_of, remove_folder, writes, truncates, way_of, emptied}
 use Rattle.machine_world.specs.Transfers.{moved_bytes, write_position}
-use Rattle.machine_world.proofs.Kept.{Kept, moves, opened_as, fitting}
+use Rattle.machine_world.proofs.EachChange.{EachChange, moves, opened_as, fitting}
 use Rattle.machine_world.proofs.FewOpen.{free_below, two_below}
 use Rattle.machine_world.proofs.Steady.{Steady, steady-closed, steady-opened, steady-replaced, length-moved, length-taken, length-duplicated, length-piped, length-pipe_taken, length-pipe_put}
 
@@ -102,7 +102,7 @@ module _ (a : Ask) (most : ℕ) (small : most < 2 ^ 27) (h : IsOrderly most a.re
       (steady-opened (length a.rest.files.tables) (storage nodes a.rest.files) t fd node (way_of (arg a 2)) (record { tree = tree; tables = refl }))
       (counted-opened (storage nodes a.rest.files) t fd node (way_of (arg a 2)) counts free there (free_below (storage nodes a.rest.files) counts (omega (arith, h.tables, small))))
 
-  pub rows_keep_order : Kept (IsOrderly most) a
+  pub rows_keep_order : EachChange (IsOrderly most) a
   rows_keep_order = record {
     dup = λ free is.
         let place = lowest_place a.rest.files t free (h.counts.whole t) (free_is (view_of a (arg a 0)) (free_of a) free is) in

@@ -11,7 +11,7 @@
 -- Steps     instructions of one process, one after the other
 -- Loads     the programs that load notes name
 -- Signals   the signals of instructions
--- Kept      each change that a row may make outside of the space
+-- EachChange  each change that a row may make outside of the space
 -- ByRows    what holds after each of them holds of what every row leaves
 -- ByEvents  what holds after each change of an event holds after every event, turn and run
 -- Marks     between two events no pipe is marked
@@ -46,7 +46,7 @@ pub mod LongerRuns
 pub mod Steps
 pub mod Loads
 pub mod Signals
-pub mod Kept
+pub mod EachChange
 pub mod ByRows
 pub mod ByEvents
 pub mod Marks

@@ -16,7 +16,7 @@ use Rattle.machine_world.specs.FamilyCalls.{or_eacces, runs_node, runs}
 use Rattle.machine_world.specs.Event.{ended, ask_of, event}
 use Rattle.machine_world.specs.Boot.{StartLine, BootFault, start_path, placed, fitting, located, started, all_started, then_started, empty_world, boot}
 use Rattle.machine_world.specs.Programs.{AreLoaded, LoadsPrograms, BootsLoadPrograms, TurnsLoadPrograms, RunsLoadPrograms}
-use Rattle.machine_world.proofs.Kept.{kept_outside}
+use Rattle.machine_world.proofs.EachChange.{kept_outside}
 use Rattle.machine_world.proofs.ByRows.{by_rows}
 use Rattle.machine_world.proofs.ByEvents.{Answered, Happened, Keeps, by_event, by_turn, by_turns}
 

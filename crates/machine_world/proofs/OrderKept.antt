@@ -14,7 +14,7 @@ use Rattle.machine_world.specs.Rows.{row}
 use Rattle.machine_world.specs.Event.{ask_of, entry_of, ended, awake, event}
 use Rattle.machine_world.specs.Ages.{kept_calls}
 use Rattle.machine_world.specs.Order.{most_tables, IsInOrder, EventsKeepOrder, TurnsKeepOrder, RunsKeepOrder}
-use Rattle.machine_world.proofs.Kept.{Answers}
+use Rattle.machine_world.proofs.EachChange.{Answers}
 use Rattle.machine_world.proofs.ByRows.{by_rows}
 use Rattle.machine_world.proofs.ByEvents.{Answered, Happened, Keeps, by_event, by_turn, by_turns}
 use Rattle.machine_world.proofs.FreeNumbers.{free_within}

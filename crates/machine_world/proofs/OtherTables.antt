@@ -15,7 +15,7 @@ use Rattle.fd_tables.proofs.TablesThere.{copy_keeps_tables}
 use Rattle.machine_world.specs.World.{Rest}
 use Rattle.machine_world.specs.Asks.{Ask}
 use Rattle.machine_world.specs.Descriptors.{table_of}
-use Rattle.machine_world.proofs.Kept.{Kept}
+use Rattle.machine_world.proofs.EachChange.{EachChange}
 
 -- ---- one item of a list
 
@@ -170,7 +170,7 @@ module _ (fs : OpenFiles) (t other : ℕ) where
 abbrev pub OthersAsIn : ℕ → OpenFiles → Rest → Type 0
 OthersAsIn t old now = (other : ℕ) → other ≢ t → table_at now.files other ≡ table_at old other
 
-pub other_tables : (a : Ask) → Kept (OthersAsIn (table_of a) a.rest.files) a
+pub other_tables : (a : Ask) → EachChange (OthersAsIn (table_of a) a.rest.files) a
 other_tables a =
     let t : ℕ = table_of a in
     let files : OpenFiles = a.rest.files in

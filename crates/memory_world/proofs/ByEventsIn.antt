@@ -23,7 +23,7 @@ use Rattle.machine_world.specs.Asks.{Ask, Reply, Row, replies, waits, arg, gives
 use Rattle.machine_world.specs.FamilyCalls.{who_of, waitid_fault, child_info, no_info, info_at}
 use Rattle.machine_world.specs.Rows.{row}
 use Rattle.machine_world.specs.Event.{Outcome, went, strays, full, idle, noted, trapped, room_for, served, waited, told_in, ask_of, classed, awake}
-use Rattle.machine_world.proofs.Kept.{Answers}
+use Rattle.machine_world.proofs.EachChange.{Answers}
 use Rattle.machine_world.proofs.ByEvents.{Keeps, Answered, Happened, by_classed}
 use Rattle.memory_world.specs.Physical.{Physical, in_memory, showing, laid_behind, After, after, no_room, nobody, carried, settled_in, outside, killed, put_in, answered_in, full_at, reaped_in, waitid_behind_in, waitid_in, writes_nothing, classed_in, asked_in, answer_in, effect_in, in_space_in, by_process_in, at_process_in, next_meaning, carried_out, first_stray_in, with_stray, event_in}
 use Rattle.memory_world.specs.After.{AfterHas}

@@ -15,7 +15,7 @@ use Rattle.machine_world.specs.Found.{Found, found_program, found_mark}
 use Rattle.machine_world.specs.FamilyCalls.{or_eacces, runs_node, runs}
 use Rattle.machine_world.specs.Event.{ended, ask_of}
 use Rattle.machine_world.specs.Programs.{AreLoaded}
-use Rattle.machine_world.proofs.Kept.{Kept}
+use Rattle.machine_world.proofs.EachChange.{EachChange}
 use Rattle.machine_world.proofs.ByRows.{by_rows}
 use Rattle.machine_world.proofs.ByEvents.{Answered, Happened}
 use Rattle.memory_world.specs.Physical.{Physical, After, after, no_room, nobody, event_in, turn_in, turns_in}
@@ -89,7 +89,7 @@ module _ (old : World) where
   one_more note notes below h = record { more = note ∷ h.more; before = ap (λ ns. note ∷ ns) h.before; loaded = λ are. (below, h.loaded are) }
 
   -- a row writes to the console behind all else, and leaves the rest of it
-  rows_since : (a : Ask) → OutsideOf a.rest → Kept OutsideOf a
+  rows_since : (a : Ask) → OutsideOf a.rest → EachChange OutsideOf a
   rows_since a h = record {
     dup = λ free is. h;
     dup3 = λ none. h;

@@ -10,7 +10,7 @@ use Rattle.nommu_regions.specs.declared.region.Source.{Source}
 use Rattle.nommu_regions.specs.declared.region.Source.TheVariants.{Own}
 use Rattle.nommu_regions.specs.Regions.{holds, is_held, AreRegions, AreFree}
 use Rattle.nommu_regions.proofs.Held.{held_by, after_set}
-use Rattle.nommu_regions.proofs.Kept.{get_set, get_other}
+use Rattle.nommu_regions.proofs.OneChanges.{get_set, get_other}
 use Rattle.mmap_rules.specs.declared.mapping.Mapping.{Mapping}
 use Rattle.mmap_rules.specs.Held.{block_mapping}
 use Rattle.mmap_rules.specs.Mappings.{run_mapping}

@@ -6,7 +6,7 @@ use Rattle.std.proofs.lemmas.Option.{slice_get_within}
 use Rattle.nommu_regions.specs.declared.region.Region.{Region}
 use Rattle.nommu_regions.specs.Regions.{AreRegions, before, behind, with_behind, with_cut}
 use Rattle.nommu_regions.proofs.Held.{after_set}
-use Rattle.nommu_regions.proofs.Kept.{get_set, get_other}
+use Rattle.nommu_regions.proofs.OneChanges.{get_set, get_other}
 use Rattle.mmap_rules.specs.declared.mapping.Mapping.{Mapping}
 use Rattle.mmap_rules.specs.Mappings.{page_at, left_of}
 use Rattle.mmap_rules.specs.MapState.{Names, NameRegions}

@@ -8,7 +8,7 @@ use Rattle.nommu_regions.specs.declared.region.Region.{Region}
 use Rattle.nommu_regions.specs.declared.region.Source.TheVariants.{Own}
 use Rattle.nommu_regions.specs.Regions.{AreRegions, IsLive, CanCut, with_uses}
 use Rattle.nommu_regions.proofs.Held.{after_set}
-use Rattle.nommu_regions.proofs.Kept.{get_set, get_other}
+use Rattle.nommu_regions.proofs.OneChanges.{get_set, get_other}
 use Rattle.mmap_rules.specs.declared.mapping.Mapping.{Mapping}
 use Rattle.mmap_rules.specs.Mappings.{is_range}
 use Rattle.mmap_rules.specs.MapState.{Names, NameRegions}

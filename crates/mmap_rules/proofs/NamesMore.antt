@@ -6,7 +6,7 @@ use Rattle.std.proofs.lemmas.Option.{same_Some, slice_get_within}
 use Rattle.nommu_regions.specs.declared.region.Region.{Region}
 use Rattle.nommu_regions.specs.Regions.{is_copy}
 use Rattle.nommu_regions.proofs.Held.{after_set}
-use Rattle.nommu_regions.proofs.Kept.{get_set, get_other}
+use Rattle.nommu_regions.proofs.OneChanges.{get_set, get_other}
 use Rattle.mmap_rules.specs.declared.mapping.Mapping.{Mapping}
 use Rattle.mmap_rules.specs.Mappings.{part_mapping}
 use Rattle.mmap_rules.specs.MapState.{Names, NameRegions}

@@ -7,7 +7,7 @@ use Rattle.std.proofs.lemmas.Bool.Decides.{nat_tests}
 use Rattle.std.proofs.lemmas.List.Sums.{sum_by-cons}
 use Rattle.nommu_regions.specs.declared.region.Region.{Region}
 use Rattle.nommu_regions.specs.Regions.{with_uses}
-use Rattle.nommu_regions.proofs.Kept.{get_set, get_other}
+use Rattle.nommu_regions.proofs.OneChanges.{get_set, get_other}
 use Rattle.mmap_rules.specs.declared.mapping.Mapping.{Mapping}
 use Rattle.mmap_rules.specs.Held.{released, LoseUses}
 

@@ -10,7 +10,7 @@ use Rattle.nommu_regions.specs.declared.region.Region.{Region}
 use Rattle.nommu_regions.specs.Regions.{holds, is_held, AreRegions, AreFree, IsLive, CanCut, free_of, before, behind, is_left, with_behind, with_cut, HaveFreeRuns}
 use Rattle.nommu_regions.proofs.Held.{is_held-set, is_held-part, held_by, not_held, was_gone, regions_fresh, regions_part}
 use Rattle.nommu_regions.proofs.FreeRuns.{free_with}
-use Rattle.nommu_regions.proofs.Kept.{get_set, get_other}
+use Rattle.nommu_regions.proofs.OneChanges.{get_set, get_other}
 
 -- pages of the region x, and not all of its pages
 pub record IsCut (rs : List Region) (id : ℕ) (x : Region) (from count : ℕ) : Type 0 where

@@ -12,7 +12,7 @@ use Rattle.nommu_regions.specs.declared.region.Region.{Region}
 use Rattle.nommu_regions.specs.Regions.{holds, AreRegions, AreFree, IsLive, CanCut, HaveFreeRuns, free_behind, free_of, with_uses, before, behind, with_cut}
 use Rattle.nommu_regions.specs.Ids.{Numbered, AreInverse, IdsBehind, Lives, OthersRemain, UpperPart, has_both, has_upper, kept_part, region_of, start_of}
 use Rattle.nommu_regions.proofs.Held.{held_by}
-use Rattle.nommu_regions.proofs.Kept.{get_set, get_other, live_set}
+use Rattle.nommu_regions.proofs.OneChanges.{get_set, get_other, live_set}
 use Rattle.nommu_regions.proofs.Cut.{IsCut, is_cut, cut_lower, cut_upper, cut_other, freed}
 use Rattle.nommu_regions.proofs.Ids.{id_within, start_within, apart}
 

@@ -1,2 +1,2 @@
--- Kept   what the slots say, after a write
-pub mod Kept
+-- AfterWrites  what the slots say, after a write
+pub mod AfterWrites

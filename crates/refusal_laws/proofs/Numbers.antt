@@ -29,7 +29,7 @@ use Rattle.machine_world.specs.Transfers.{write_position}
 use Rattle.machine_world.specs.Rows.{row}
 use Rattle.machine_world.specs.Ages.{kept_calls}
 use Rattle.machine_world.specs.Event.{ask_of, entry_of, ended, event}
-use Rattle.machine_world.proofs.Kept.{Answers, Kept, opened_as, fitting}
+use Rattle.machine_world.proofs.EachChange.{Answers, EachChange, opened_as, fitting}
 use Rattle.machine_world.proofs.ByRows.{by_rows}
 use Rattle.machine_world.proofs.ByEvents.{Went, Answered, Happened, by_event}
 use Rattle.machine_world.proofs.OrderKept.{noted_call}
@@ -275,7 +275,7 @@ module _ (a : Ask) where
   grown_piped : (files : OpenFiles) → files.next_pipe ≡ a.rest.files.next_pipe + 1 → Grown a.rest (record a.rest { files = files })
   grown_piped files more = record { nodes = omega arith; pipes = omega (arith, more) }
 
-  kept_grown : Kept (Grown a.rest) a
+  kept_grown : EachChange (Grown a.rest) a
   unfolding taken piped
   kept_grown = record {
     dup = λ free is. grown_files _ (next-duplicated a.rest.files (table_of a) (arg a 0) free false);

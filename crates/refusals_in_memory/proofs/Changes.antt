@@ -11,7 +11,7 @@ use Rattle.machine_world.specs.Rows.{row}
 use Rattle.machine_world.specs.Event.{ask_of, entry_of, ended, awake}
 use Rattle.machine_world.specs.Ages.{kept_calls}
 use Rattle.machine_world.specs.Order.{most_tables, IsCounted}
-use Rattle.machine_world.proofs.Kept.{Answers, kept_outside}
+use Rattle.machine_world.proofs.EachChange.{Answers, kept_outside}
 use Rattle.machine_world.proofs.ByRows.{by_rows}
 use Rattle.machine_world.proofs.ByEvents.{Answered, Happened}
 use Rattle.machine_world.proofs.Counted.{HasCounted, behind-exec_closed, behind-without_table}

@@ -34,7 +34,7 @@ use Rattle.go_on_laws.proofs.Refused.{refused_events_leave_memory}
 use Rattle.refusals_in_memory.specs.Regular.{IsRegularIn}
 use Rattle.refusals_in_memory.specs.Refusals.{NotesCall, noted_in, ErrnosAreRefusedIn}
 use Rattle.refusals_in_memory.proofs.Answers.{EachAnswer, by_classed_in}
-use Rattle.refusals_in_memory.proofs.Kept.{bounded_stray}
+use Rattle.refusals_in_memory.proofs.StaysRegular.{bounded_stray}
 use Rattle.refusals_in_memory.proofs.Noted.{IsPlain, Adds, adds_none, adds_stray, among}
 
 -- ---- outcomes that note no errno

@@ -11,7 +11,7 @@ use Rattle.machine_world.specs.Asks.{Ask}
 use Rattle.machine_world.specs.Event.{ended, ask_of, event}
 use Rattle.machine_world.specs.Turns.{turns}
 use Rattle.machine_world.specs.Boot.{StartLine, empty_world, boot}
-use Rattle.machine_world.proofs.Kept.{kept_outside}
+use Rattle.machine_world.proofs.EachChange.{kept_outside}
 use Rattle.machine_world.proofs.ByRows.{by_rows}
 use Rattle.machine_world.proofs.ByEvents.{Answered, Happened, Keeps, by_event, by_turns}
 use Rattle.vfork_exec.specs.Procs.{most_entries}

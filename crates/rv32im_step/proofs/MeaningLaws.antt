@@ -20,11 +20,11 @@ pub record Keeps (m : Bytes) (w : ℕ → Bool) (now : Bytes) : Type 0 where
   pub there : (i : ℕ) → is_some (now i) ≡ is_some (m i)
   pub unwritable : (i : ℕ) → w i ≡ false → now i ≡ m i
 
-abbrev pub Kept : Bytes → (ℕ → Bool) → Meaning → Type 0
-Kept m w (next regs now) = Keeps m w now
-Kept m w call = Unit {0}
-Kept m w (trap signal) = Unit {0}
-Kept m w (refused access) = Unit {0}
+abbrev pub KeepsOthers : Bytes → (ℕ → Bool) → Meaning → Type 0
+KeepsOthers m w (next regs now) = Keeps m w now
+KeepsOthers m w call = Unit {0}
+KeepsOthers m w (trap signal) = Unit {0}
+KeepsOthers m w (refused access) = Unit {0}
 
 untouched : (m : Bytes) (w : ℕ → Bool) → Keeps m w m
 untouched m w = record { there = λ i. refl; unwritable = λ i locked. refl }
@@ -62,52 +62,52 @@ keeps_written m w addr (suc len) n may =
 -- ---- the parts of a row
 
 kept_if :
-    (m : Bytes) (w : ℕ → Bool) (test : Bool) (a b : Meaning) → Kept m w a → Kept m w b → Kept m w (if test then a else b)
+    (m : Bytes) (w : ℕ → Bool) (test : Bool) (a b : Meaning) → KeepsOthers m w a → KeepsOthers m w b → KeepsOthers m w (if test then a else b)
 kept_if m w true a b first second = first
 kept_if m w false a b first second = second
 
-kept_goes : (x : List ℕ) (m : Bytes) (w : ℕ → Bool) (target : ℕ) → Kept m w (goes x m target)
+kept_goes : (x : List ℕ) (m : Bytes) (w : ℕ → Bool) (target : ℕ) → KeepsOthers m w (goes x m target)
 kept_goes x m w target = kept_if m w (target % 4 == 0) (next (record { pc = target; x = x }) m) (trap misaligned) (untouched m w) tt
 
-kept_jumps : (regs : Regs) (m : Bytes) (w : ℕ → Bool) (rd target : ℕ) → Kept m w (jumps regs m rd target)
+kept_jumps : (regs : Regs) (m : Bytes) (w : ℕ → Bool) (rd target : ℕ) → KeepsOthers m w (jumps regs m rd target)
 kept_jumps regs m w rd target = kept_goes (with_register regs.x rd (wrap (regs.pc + 4))) m w target
 
 kept_branches :
-    (regs : Regs) (m : Bytes) (w : ℕ → Bool) (taken : Bool) (offset : ℕ) → Kept m w (branches regs m taken offset)
+    (regs : Regs) (m : Bytes) (w : ℕ → Bool) (taken : Bool) (offset : ℕ) → KeepsOthers m w (branches regs m taken offset)
 kept_branches regs m w taken offset =
     kept_if m w taken (goes regs.x m (wrap (regs.pc + offset))) (next (following regs) m)
     (kept_goes regs.x m w (wrap (regs.pc + offset))) (untouched m w)
 
 kept_loaded :
     (regs : Regs) (m : Bytes) (w : ℕ → Bool) (rd : ℕ) (extension : ℕ → ℕ) (r : Result ℕ Access) →
-    Kept m w (sets_loaded regs m rd extension r)
+    KeepsOthers m w (sets_loaded regs m rd extension r)
 kept_loaded regs m w rd extension (Ok n) = untouched m w
 kept_loaded regs m w rd extension (Err access) = tt
 
 kept_loads :
     (regs : Regs) (m : Bytes) (w : ℕ → Bool) (rd addr len : ℕ) (extension : ℕ → ℕ) →
-    Kept m w (loads regs m rd addr len extension)
+    KeepsOthers m w (loads regs m rd addr len extension)
 kept_loads regs m w rd addr len extension = kept_loaded regs m w rd extension (loaded m (load_of regs.pc addr len))
 
 kept_stored :
-    (regs : Regs) (m : Bytes) (w : ℕ → Bool) (access : Access) (n : ℕ) → Kept m w (changes regs (stored m w access n))
+    (regs : Regs) (m : Bytes) (w : ℕ → Bool) (access : Access) (n : ℕ) → KeepsOthers m w (changes regs (stored m w access n))
 unfolding stored
 kept_stored regs m w access n =
     tested (nat_le (access.addr + access.len) (2 ^ 32)) (all_writable m w access.addr access.len) refl
   where
     tested :
         (fits may : Bool) → all_writable m w access.addr access.len ≡ may →
-        Kept m w (changes regs (if fits && may then Ok (with_bytes m access.addr (little_bytes access.len n)) else Err access))
+        KeepsOthers m w (changes regs (if fits && may then Ok (with_bytes m access.addr (little_bytes access.len n)) else Err access))
     tested true true is = keeps_written m w access.addr access.len n is
     tested true false is = tt
     tested false may is = tt
 
-kept_stores : (regs : Regs) (m : Bytes) (w : ℕ → Bool) (addr len n : ℕ) → Kept m w (stores regs m w addr len n)
+kept_stores : (regs : Regs) (m : Bytes) (w : ℕ → Bool) (addr len n : ℕ) → KeepsOthers m w (stores regs m w addr len n)
 kept_stores regs m w addr len n = kept_stored regs m w (store_of regs.pc addr len) n
 
 -- ---- the rows
 
-kept_row : (instr : Instr) (x : ℕ → ℕ) (regs : Regs) (m : Bytes) (w : ℕ → Bool) → Kept m w (row instr x regs m w)
+kept_row : (instr : Instr) (x : ℕ → ℕ) (regs : Regs) (m : Bytes) (w : ℕ → Bool) → KeepsOthers m w (row instr x regs m w)
 kept_row (Lui rd imm) x regs m w = untouched m w
 kept_row (Auipc rd imm) x regs m w = untouched m w
 kept_row (Jal rd imm) x regs m w = kept_jumps regs m w rd (wrap (regs.pc + imm))
@@ -159,20 +159,20 @@ kept_row Ecall x regs m w = tt
 kept_row Ebreak x regs m w = tt
 
 kept_decoded :
-    (instr : Option Instr) (regs : Regs) (m : Bytes) (w : ℕ → Bool) → Kept m w (decoded_effect instr regs m w)
+    (instr : Option Instr) (regs : Regs) (m : Bytes) (w : ℕ → Bool) → KeepsOthers m w (decoded_effect instr regs m w)
 unfolding effect
 kept_decoded (Some instr) regs m w = kept_row instr _ regs m w
 kept_decoded None regs m w = tt
 
 kept_fetched :
-    (r : Result ℕ Access) (regs : Regs) (m : Bytes) (w : ℕ → Bool) → Kept m w (fetched_effect r regs m w)
+    (r : Result ℕ Access) (regs : Regs) (m : Bytes) (w : ℕ → Bool) → KeepsOthers m w (fetched_effect r regs m w)
 kept_fetched (Ok word) regs m w = kept_decoded (decoded word) regs m w
 kept_fetched (Err access) regs m w = tt
 
-kept_meaning : (regs : Regs) (m : Bytes) (w : ℕ → Bool) → Kept m w (meaning regs m w)
+kept_meaning : (regs : Regs) (m : Bytes) (w : ℕ → Bool) → KeepsOthers m w (meaning regs m w)
 unfolding meaning
 kept_meaning regs m w = kept_fetched (loaded m (fetch_of regs.pc)) regs m w
 
 pub keeps :
     (regs after : Regs) (m now : Bytes) (w : ℕ → Bool) → meaning regs m w ≡ next after now → Keeps m w now
-keeps regs after m now w is = subst (λ (x : Meaning). Kept m w x) is (kept_meaning regs m w)
+keeps regs after m now w is = subst (λ (x : Meaning). KeepsOthers m w x) is (kept_meaning regs m w)

@@ -30,7 +30,7 @@ use Rattle.file_commands.specs.HostCourse.{Performs}
 use Rattle.suite_top.specs.Refusing.{told_refusal}
 use Rattle.file_commands.specs.Manifests.{Refuses}
 use Rattle.suite_top.specs.Telling.{Telling, kept_of}
-use Rattle.suite_top.specs.Kept.{kept_outcome}
+use Rattle.suite_top.specs.KeptItems.{kept_outcome}
 use Rattle.suite_top.specs.Run.{start_line, world_ending, memory_run_ending, mode_outcome}
 use Rattle.suite_top.specs.Steps.{EndsFor, boot_ending}
 

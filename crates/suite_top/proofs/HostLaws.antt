@@ -13,7 +13,7 @@ use Rattle.file_commands.specs.Convert.{converted_outcome}
 use Rattle.file_commands.specs.Romfs.{romfs_outcome}
 use Rattle.file_commands.specs.Replay.{replay_outcome}
 use Rattle.suite_top.specs.Telling.{Telling, Report, Trace, kept_of}
-use Rattle.suite_top.specs.Kept.{kept_requests}
+use Rattle.suite_top.specs.KeptItems.{kept_requests}
 use Rattle.suite_top.specs.Run.{run_outcome}
 use Rattle.suite_top.specs.Result.{command_outcome}
 use Rattle.file_commands.specs.HostCourse.{HostCourse, complete, failed, out_of_memory, AreLoads, IsCourseOf, FaultsAfter, after_answer, after_answers, told_after}

@@ -27,7 +27,7 @@ use Rattle.run_setup.specs.Making.{BringsAll}
 use Rattle.file_commands.specs.ItemLoads.{GaveFiles}
 use Rattle.file_commands.specs.Manifests.{manifest_limit, fault_ending, Refuses}
 use Rattle.suite_top.specs.Telling.{Telling, mode_of, placement_of, kept_of, told_ending}
-use Rattle.suite_top.specs.Kept.{keep_of}
+use Rattle.suite_top.specs.KeptItems.{keep_of}
 use Rattle.suite_top.specs.Run.{mode_ending, mode_outcome, booted_outcome, brought_outcome, files_outcome, items_outcome, manifest_outcome, run_outcome, start_line, opening}
 use Rattle.suite_top.specs.Steps.{EndsFor, manifest_ending, boot_ending}
 use Rattle.file_commands.proofs.HostCourses.{runs_out, ends_at_once}

@@ -26,7 +26,7 @@ use Rattle.suite_top.specs.Demo.{each_of, demo_manifest, demo_run}
 use Rattle.file_commands.specs.Items.{files_limit}
 use Rattle.file_commands.specs.Manifests.{manifest_limit}
 use Rattle.suite_top.proofs.LoadOutcomes.{load_run, items_run}
-use Rattle.suite_top.specs.Kept.{keep_of, kept_outcome}
+use Rattle.suite_top.specs.KeptItems.{keep_of, kept_outcome}
 use Rattle.suite_top.specs.Run.{start_line, opening, boot_fault, world_hits, memory_hits, mode_outcome, booted_outcome, brought_outcome, files_outcome, manifest_outcome, run_outcome}
 
 -- what holds of each end

@@ -25,7 +25,7 @@ use Rattle.file_commands.specs.Arguments.{KeptItems}
 use Rattle.file_commands.specs.Observed.{Observed}
 use Rattle.file_commands.specs.HostCourse.{Performs}
 use Rattle.suite_top.specs.declared.course.Course.{Course}
-use Rattle.suite_top.specs.Kept.{kept_outcome}
+use Rattle.suite_top.specs.KeptItems.{kept_outcome}
 use Rattle.suite_top.specs.Running.{turns_of, Stopped, TellsHalting, TellsGoingOn}
 use Rattle.suite_top.specs.Run.{world_hits, memory_hits, walked_ending, world_ending, walked_on_ending, memory_run_ending, mode_outcome}
 use Rattle.suite_top.proofs.RunEndings.{stop_is_told}

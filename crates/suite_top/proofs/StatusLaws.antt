@@ -89,10 +89,10 @@ module _ (c : Call) (ending : Ending) (t : IsTaken c ending) where
   write_at (out_of_memory done) is_course told faults_so ends p = absurd (let h : Memory ≡ HostWrite = sym (ap (λ (s : Ending). s.status) ends) ∙ p in cc)
 
   -- out of memory: the line `memory` was taken, and no file changed
-  abbrev Kept : Type 0
-  Kept = (u u_after : Told) → c.host.told ≡ Some u → c.host_after.told ≡ Some u_after → u_after.files ≡ u.files
+  abbrev FilesStay : Type 0
+  FilesStay = (u u_after : Told) → c.host.told ≡ Some u → c.host_after.told ≡ Some u_after → u_after.files ≡ u.files
 
-  memory_at : (k : HostCourse) → IsCourseOf (outcome_of c).requests k → c.host_after.told ≡ option_map (told_after (outcome_of c).requests k) c.host.told → EndsAfter (outcome_of c).ending k ending → ending.status ≡ Memory → (ending ≡ memory_ending) × Kept
+  memory_at : (k : HostCourse) → IsCourseOf (outcome_of c).requests k → c.host_after.told ≡ option_map (told_after (outcome_of c).requests k) c.host.told → EndsAfter (outcome_of c).ending k ending → ending.status ≡ Memory → (ending ≡ memory_ending) × FilesStay
   memory_at complete is_course told ends p = absurd (never Memory (λ e. cc) (λ e. cc) (λ e. cc) (λ e. cc) (λ e. cc) (λ e. cc) (λ e. cc) (λ e. cc) (λ e. cc) c.arguments c.inputs (sym (ap (λ (s : Ending). s.status) ends.0) ∙ p))
   memory_at (failed done last) is_course told (inl is) p = absurd (never_fails last (sym (ap (λ (s : Ending). s.status) is) ∙ p))
   memory_at (failed done last) is_course told (inr is) p =
@@ -100,7 +100,7 @@ module _ (c : Call) (ending : Ending) (t : IsTaken c ending) where
   memory_at (out_of_memory done) is_course told ends p =
       (ends, λ u u_after old new. ap (λ (v : Told). v.files) (told_is (told_after (outcome_of c).requests (out_of_memory done)) c.host.told c.host_after.told u u_after told old new) ∙ loads_keep done u is_course.2)
 
-  memory_told : Performs c.host c.host_after (outcome_of c) ending → (ending ≡ memory_ending) × Kept → IsMemoryTold c
+  memory_told : Performs c.host c.host_after (outcome_of c) ending → (ending ≡ memory_ending) × FilesStay → IsMemoryTold c
   memory_told performs (is, kept) = record {
     performs = subst (Performs c.host c.host_after (outcome_of c)) is performs;
     files = kept;

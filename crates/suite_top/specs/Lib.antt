@@ -4,7 +4,7 @@
 -- Report      the report of a run, and the status that it ends with
 -- Telling     what a run of programs tells: a report, a trace, or the line of a demo
 -- Watched     the hits of a run that is watched, as lines of its report
--- Kept        the items that a run keeps
+-- KeptItems   the items that a run keeps
 -- Run         the commands `run` and `trace`
 -- Demo        the command `demo`
 -- Result      result_of: the outcome of each command line
@@ -18,7 +18,7 @@
 pub mod Report
 pub mod Telling
 pub mod Watched
-pub mod Kept
+pub mod KeptItems
 pub mod Run
 pub mod Demo
 pub mod Result

@@ -23,7 +23,7 @@ use Rattle.file_commands.specs.Outcome.{Outcome, Inputs}
 use Rattle.file_commands.specs.Load.{at_once, with_load}
 use Rattle.file_commands.specs.Items.{files_limit, with_items}
 use Rattle.file_commands.specs.Manifests.{manifest_limit, fault_ending}
-use Rattle.suite_top.specs.Kept.{keep_of, kept_outcome}
+use Rattle.suite_top.specs.KeptItems.{keep_of, kept_outcome}
 use Rattle.suite_top.specs.Report.{own_dumps, memory_dumps}
 use Rattle.suite_top.specs.Telling.{Telling, mode_of, placement_of, kept_of, watch_of, told_ending}
 use Rattle.suite_top.specs.Watched.{watched_text}

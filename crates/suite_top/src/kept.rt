@@ -4,7 +4,7 @@ ghost use Rattle.flat_machine.specs.State.{world};
 ghost use Rattle.file_commands.specs.Answer.{ending_of, HasEnding};
 ghost use Rattle.file_commands.specs.Observed.{observed};
 ghost use Rattle.file_commands.specs.HostCourse.{Performs};
-ghost use Rattle.suite_top.specs.Kept.{keep_of, kept_text, kept_outcome, kept_in};
+ghost use Rattle.suite_top.specs.KeptItems.{keep_of, kept_text, kept_outcome, kept_in};
 ghost use Rattle.suite_top.specs.Telling.{ending_behind};
 
 use file_commands::{Answer, KeptItems, Status, store_file};

@@ -1,16 +1,14 @@
 //! The commands `run MANIFEST` and `trace MANIFEST`.
-ghost use Rattle.std.specs.Prelude.{◌≡◌, ◌++◌, ◌<◌, ◌≤◌, ℕ, false, length, map, string_bytes, slice_get, IfOk, None, Some};
+ghost use Rattle.std.specs.Prelude.{◌≡◌, ◌++◌, length, map, string_bytes, IfOk, None, Some};
 ghost use Rattle.std.specs.List.{AllByRecursion};
 ghost use Rattle.page_runs.specs.Choosers.{IsChooser, kind_of};
-ghost use Rattle.manifest_text.specs.declared.manifest.Start.{Start as StartItem};
 ghost use Rattle.manifest_text.specs.Manifest.{manifest_of};
 ghost use Rattle.manifest_text.specs.Values.{item_value, manifest_value, vec_texts};
 ghost use Rattle.manifest_text.specs.Laws.{IsItem};
-ghost use Rattle.machine_world.specs.Ages.{AreChanged, most_at_boot};
+ghost use Rattle.machine_world.specs.Ages.{AreChanged};
 ghost use Rattle.machine_world.specs.Boot.{boot};
-ghost use Rattle.kept_parts.specs.InMemory.{headers_of};
-ghost use Rattle.memory_world.specs.Physical.{has_stray, opening_in};
-ghost use Rattle.flat_machine.specs.State.{world, one_memory, rest_of, lines_of};
+ghost use Rattle.flat_machine.specs.Boots.{IsSetup, IsOpening, rest_by};
+ghost use Rattle.flat_machine.specs.State.{world, lines_of};
 ghost use Rattle.watch_points.specs.Points.{IsPoint, kind_of_point};
 ghost use Rattle.file_commands.specs.Observed.{observed};
 ghost use Rattle.file_commands.specs.Answer.{ending_of, settled_ending};
@@ -177,16 +175,9 @@ fn boot<F: Fn(&[Run], u32) -> Option<usize>>(
     chooser: &Chooser<F>,
 ) -> Result<Machine, Ended>
     requires chooser { IsChooser F.pre F.post chooser.now }
-    requires some { 1 ≤ setup.pages }
-    requires most { setup.pages ≤ 16384 }
-    requires changes { AreChanged most_at_boot setup.tree }
-    requires paths { length setup.paths.items ≡ length setup.programs.items }
-    requires starts { length setup.starts.items ≤ 64 }
-    requires args { (i : ℕ) → (s : StartItem) → slice_get setup.starts.items i ≡ Some s → 0 < length s.args.items }
-    ensures world { Gives world boot_ending (boot (rest_of setup.pages (kind_of chooser.now) setup.paths.items setup.programs.items setup.tree setup.stdin.items setup.keep) (lines_of setup.starts.items)) result }
-    ensures memory { IfOk result (λ machine. one_memory machine ≡ opening_in (headers_of setup.programs.items) (world machine)) }
-    ensures mode { IfOk result (λ machine. machine.mode ≡ setup.mode) }
-    ensures quiet { IfOk result (λ machine. has_stray (world machine).notes ≡ false) }
+    requires setup { IsSetup setup }
+    ensures world { Gives world boot_ending (boot (rest_by (kind_of chooser.now) setup) (lines_of setup.starts.items)) result }
+    ensures opens { IfOk result (IsOpening (kind_of chooser.now) setup) }
 {
     match Machine::boot(alloc, setup, chooser) {
         Ok(machine) => Ok(machine),

@@ -1,6 +1,6 @@
 //! What is asked of a run of programs.
 ghost use Rattle.std.specs.Prelude.{◌≡◌};
-ghost use Rattle.suite_top.specs.Kept.{kept_in};
+ghost use Rattle.suite_top.specs.KeptItems.{kept_in};
 ghost use Rattle.suite_top.specs.Telling.{mode_of, placement_of, kept_of, watch_of, telling_value};
 
 use file_commands::{KeptItems, RunOptions, TraceOptions};

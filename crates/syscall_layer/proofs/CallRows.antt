@@ -17,7 +17,7 @@ use Rattle.file_calls.specs.Calls.{MadeBy, is_change, is_output}
 use Rattle.kept_parts.specs.declared.effect.Effect.TheVariants.{Answer, Yield, Break}
 use Rattle.kept_parts.specs.Calls.{reply_of}
 use Rattle.kept_parts.specs.MapsIn.{is_mapping}
-use Rattle.kept_parts.proofs.Counts.{eqb_is}
+use Rattle.kept_parts.proofs.Common.UseCounts.{eqb_is}
 
 -- ---- ioctl
 

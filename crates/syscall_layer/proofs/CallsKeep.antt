@@ -12,7 +12,7 @@ use Rattle.machine_world.specs.World.{Process, LiveSpace, Rest, World, pid_of, i
 use Rattle.machine_world.specs.Asks.{Ask, Row, replies, waits}
 use Rattle.machine_world.specs.Rows.{row}
 use Rattle.machine_world.specs.Event.{Outcome, went, strays, full, idle, ended, ask_of, answer, settled, trapped, in_space, by_process, at_process, called, died}
-use Rattle.machine_world.proofs.Kept.{Answers}
+use Rattle.machine_world.proofs.EachChange.{Answers}
 use Rattle.machine_world.proofs.ByEvents.{Answered as CallHas, Happened, Keeps, by_effect}
 use Rattle.memory_world.specs.Physical.{Physical, After, after, no_room, nobody, has_stray, settled_in, answer_in, called_in}
 use Rattle.memory_world.specs.Physical as physical

@@ -7,7 +7,7 @@ use Rattle.region_watch.specs.declared.mode.Mode.{Mode}
 use Rattle.region_watch.specs.declared.mode.Mode.TheVariants.{Halt, GoOn}
 use Rattle.memory_world.specs.Physical.{has_stray}
 use Rattle.kept_parts.specs.Noted.{first_noted}
-use Rattle.kept_parts.proofs.NotedStrays.{stray_first, stray_reversed}
+use Rattle.kept_parts.proofs.Common.NotedStrays.{stray_first, stray_reversed}
 use Rattle.syscall_layer.specs.Parts.{halted_at}
 
 pub none_noted : (mode : Mode) (notes : List Note) → has_stray notes ≡ false → halted_at mode notes ≡ None

@@ -28,8 +28,8 @@ use Rattle.kept_parts.specs.Stands.{About}
 use Rattle.kept_parts.specs.Awake.{with_wakes, awake_in}
 use Rattle.kept_parts.specs.Serves.{went_by, is_waiting, WaitsAt, Tells}
 use Rattle.kept_parts.specs.Calls.{child_task, after_fork, after_reply, ask_in, reply_of, served_by}
-use Rattle.kept_parts.proofs.Families.{can_run_lives, state_ready}
-use Rattle.kept_parts.proofs.Forks.{parent_there}
+use Rattle.kept_parts.proofs.Common.ProcessList.{can_run_lives, state_ready}
+use Rattle.kept_parts.proofs.Forks.Child.{parent_there}
 
 -- ---- the state of one process
 

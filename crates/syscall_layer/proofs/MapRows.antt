@@ -24,7 +24,7 @@ use Rattle.file_calls.specs.declared.call.Call.{Call}
 use Rattle.file_calls.specs.Calls.{MadeBy}
 use Rattle.mmap_rules.specs.Copies.{IsKnown}
 use Rattle.kept_parts.specs.MapsIn.{IsAsked}
-use Rattle.kept_parts.proofs.QuietRows.{Quiet}
+use Rattle.kept_parts.proofs.Replies.QuietRows.{Quiet}
 
 module _ (call : Call) (a : Ask) (made : MadeBy call a) where
   at_arg : (i : ℕ) → arg a i ≡ slice_index call.args i

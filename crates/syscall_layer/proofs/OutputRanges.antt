@@ -31,7 +31,7 @@ use Rattle.file_calls.specs.Outcomes.{GivesRow}
 use Rattle.file_calls.proofs.Listed.{listing_fits}
 use Rattle.call_bytes.specs.Puts.{IsRange}
 use Rattle.call_bytes.proofs.Places.{decide}
-use Rattle.kept_parts.proofs.Counts.{eqb_is}
+use Rattle.kept_parts.proofs.Common.UseCounts.{eqb_is}
 
 -- every range of a reply, if there is one
 abbrev pub Ranged : Row → Type 0

@@ -49,7 +49,7 @@ use Rattle.kept_parts.specs.Kept.{Kept, nothing_yet}
 use Rattle.kept_parts.specs.Copies.{KnowsFile, HoldsFiles, StillHolds}
 use Rattle.syscall_layer.specs.Parts.{AreTied}
 use Rattle.kept_parts.specs.InMemory.{first_range, called_on}
-use Rattle.kept_parts.proofs.Holding.{unstrayed_holds}
+use Rattle.kept_parts.proofs.Copies.BehindStrays.{unstrayed_holds}
 
 -- what a call's first range is, whether its turn is over, what it notes, and what it leaves at some addresses of memory
 pub record Saw : Type 0 where

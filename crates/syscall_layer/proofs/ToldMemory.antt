@@ -42,8 +42,8 @@ use Rattle.kept_parts.specs.Families.{info_of}
 use Rattle.kept_parts.specs.Serves.{Serves}
 use Rattle.kept_parts.specs.InMemory.{physical_of, Over, GoesIn, ServesIn, UnlessStray, InReach}
 use Rattle.kept_parts.specs.Calls.{IsCall, ask_in, output_reply, reply_of}
-use Rattle.kept_parts.proofs.Waits.{IsTold, looked_told, left_of, Behind, given_is, told_world, told_lives, told_is, waits_serve}
-use Rattle.kept_parts.proofs.PlainMemory.{answered_never, waited_never, mute_carried, plain_in, plain_goes}
+use Rattle.kept_parts.proofs.Forks.Told.{IsTold, looked_told, left_of, Behind, given_is, told_world, told_lives, told_is, waits_serve}
+use Rattle.kept_parts.proofs.Replies.PlainMemory.{answered_never, waited_never, mute_carried, plain_in, plain_goes}
 
 -- ---- who dies leaves no children, so a child that it was told of is gone either way
 

@@ -25,7 +25,7 @@ ghost use Rattle.kept_parts.specs.Stands.{About, process_of, world_of};
 ghost use Rattle.region_watch.specs.Private.{physical};
 ghost use Rattle.memory_world.specs.Physical.{outside, has_stray, carried, killed, settled_in, answered_in, classed_in, died_in};
 ghost use Rattle.region_watch.specs.declared.mode.Mode.TheVariants.{Halt, GoOn};
-ghost use Rattle.kept_parts.specs.declared.served.Served.TheVariants.{Replied, Stray};
+ghost use Rattle.kept_parts.specs.declared.served.Served.TheVariants.{Replied, Stray, Ended};
 ghost use Rattle.kept_parts.specs.Copies.{HoldsFiles, StillHolds};
 ghost use Rattle.kept_parts.specs.InMemory.{headers_of, physical_of, ServesIn};
 ghost use Rattle.kept_parts.specs.Leaves.{CanGive};
@@ -424,6 +424,7 @@ pub(crate) fn beyond_reach(
     ensures strays { mode ≡ Halt → (result ≡ Ok (Stray access)) × (parts.new ≡ parts.old) }
     ensures memory { mode ≡ GoOn → (headers : List (List ℕ)) → (a : About) →
         ServesIn headers a (died_in (physical_of headers a parts.old) pid outside) parts.old parts.new pid result }
+    ensures ends { mode ≡ GoOn → IfOk result (λ served. served ≡ Ended) }
     ensures leaves { IfOk result (Tells parts.old parts.new pid) }
     ensures keeps { KeepsMarks parts.old parts.new }
     ensures unchanged { OnErr result (parts.new ≡ parts.old) }

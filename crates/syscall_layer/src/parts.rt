@@ -5,7 +5,7 @@ ghost use Rattle.vfork_exec.specs.Procs.{CanRun};
 ghost use Rattle.machine_world.specs.Event.{died};
 ghost use Rattle.memory_world.specs.Physical.{has_stray, died_in, outside};
 ghost use Rattle.kept_parts.specs.Awake.{awake_in};
-ghost use Rattle.kept_parts.specs.declared.served.Served.TheVariants.{Stray};
+ghost use Rattle.kept_parts.specs.declared.served.Served.TheVariants.{Stray, Ended};
 ghost use Rattle.kept_parts.specs.InMemory.{DiesIn, ServesIn, physical_of, without_newest};
 ghost use Rattle.kept_parts.specs.Regular.{IsRegular};
 ghost use Rattle.kept_parts.specs.Serves.{Dies, NotesStray};
@@ -136,6 +136,7 @@ impl Parts {
         ensures strays { has_stray self.old.kept.notes ≡ false → (result ≡ Ok (Stray access)) × (self.new ≡ self.old) }
         ensures memory { has_stray self.old.kept.notes ≡ true → (headers : List (List ℕ)) → (a : About) →
             ServesIn headers a (died_in (physical_of headers a self.old.kept) pid outside) self.old.kept self.new.kept pid result }
+        ensures ends { has_stray self.old.kept.notes ≡ true → IfOk result (λ served. served ≡ Ended) }
         ensures unchanged { OnErr result (self.new ≡ self.old) }
     {
         let mode = self.watch_mode();

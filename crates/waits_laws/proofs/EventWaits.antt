@@ -27,7 +27,7 @@ use Rattle.machine_world.specs.Rows.{row}
 use Rattle.machine_world.specs.Event.{Trace, went, with_state, with_space, counted, counted_in, number_of, args_of, replied, ask_of, stepped, trapped, ended, waited, classed, asked, answer, awake, effect, event}
 use Rattle.machine_world.specs.Others.{LeavesOthers}
 use Rattle.machine_world.proofs.Awake.{roused_all, woke, all_ready, all_waiting, all_lent, all_roused_is, find_roused, not_awake, settled_of}
-use Rattle.machine_world.proofs.Kept.{Answers}
+use Rattle.machine_world.proofs.EachChange.{Answers}
 use Rattle.machine_world.proofs.ByEvents.{Went, Answered, loading_of, by_classed}
 use Rattle.machine_world.proofs.States.{event_is}
 use Rattle.machine_world.proofs.Beside.{events_leave_others}

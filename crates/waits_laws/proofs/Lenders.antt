@@ -15,7 +15,7 @@ use Rattle.machine_world.specs.Asks.{Ask, Row, replies, waits}
 use Rattle.machine_world.specs.Rows.{row}
 use Rattle.machine_world.specs.Event.{Trace, went, ended, replied, ask_of, child_of, with_child, with_exec, event}
 use Rattle.machine_world.proofs.Awake.{roused_all, woke, all_lent, all_is_lent, lives_roused, was_there}
-use Rattle.machine_world.proofs.Kept.{Answers}
+use Rattle.machine_world.proofs.EachChange.{Answers}
 use Rattle.machine_world.proofs.ByEvents.{Went, Answered, Happened, loading_of, by_event}
 use Rattle.machine_world.proofs.Chains.{sharing_head, find_sharing, head_ready, find_left, find_left_own, find_forked, find_forked_child, find_forked_own, find_exec, find_exec_own}
 use Rattle.waits_laws.specs.Waits.{HasVforkChild}
@@ -295,12 +295,12 @@ any_row : (r : Row) → Answers (λ rest. Unit {0}) r
 any_row (replies r) = tt
 any_row (waits state) = tt
 
-abbrev Kept : World → Trace → Type 0
-Kept now t = Newer now.procs → Parents now.procs
+abbrev ParentsStay : World → Trace → Type 0
+ParentsStay now t = Newer now.procs → Parents now.procs
 
 module _ (w : World) (chains : AreChains w.procs) (falls : Falls pid_of w.next_pid w.procs) (old : Parents w.procs) (p : Process) (s : Space)
     (lives : find pid_of p.pid w.procs ≡ Some p) (ready : p.state ≡ Ready) where
-  kept_call : (bytes : List ℕ) → Answered Kept (λ rest. Unit {0}) w (ask_of w p s bytes)
+  kept_call : (bytes : List ℕ) → Answered ParentsStay (λ rest. Unit {0}) w (ask_of w p s bytes)
   unfolding ended
   kept_call bytes = record {
     reply = λ ended r m holds room newer.
@@ -311,7 +311,7 @@ module _ (w : World) (chains : AreChains w.procs) (falls : Falls pid_of w.next_p
     load = λ f strings page is fits room newer. parents_loaded w chains falls old p lives ready (loading_of f strings page);
   }
 
-  kept_event : Happened Kept (λ rest. Unit {0}) w p s
+  kept_event : Happened ParentsStay (λ rest. Unit {0}) w p s
   unfolding ended
   kept_event = record {
     step = λ regs bytes newer. parents_changed w chains falls old p lives ready (λ q. record q { regs = regs }) (λ q. refl) refl (λ child. ready_isnt p.state child ready);
@@ -342,11 +342,11 @@ pub events_keep_lenders : (w : World) (pid : ℕ) (now : World) (t : Trace) → 
     → event w pid ≡ went now t → AreChains now.procs → Falls pid_of now.next_pid now.procs → AreLent now
 events_keep_lenders w pid now t chains falls lent may is later_chains later_falls =
     let newer : Newer now.procs = newer_by now.next_pid now.procs later_chains later_falls in
-    let goes : Went Kept (event w pid) =
-    by_event Kept (λ rest. Unit {0}) (λ v u holds. parents_awake v.rest.files.changed v.procs holds) w tt pid
+    let goes : Went ParentsStay (event w pid) =
+    by_event ParentsStay (λ rest. Unit {0}) (λ v u holds. parents_awake v.rest.files.changed v.procs holds) w tt pid
     (λ p s there has.
     let key : p.pid ≡ pid = find_key pid_of pid w.procs p there in
     let ready : p.state ≡ Ready = (let e = sym (ap (option_map (λ (q : Process). q.state)) there) ∙ may in cc) in
     kept_event w chains falls (parents_of w lent) p s.space (ap (λ (n : ℕ). find pid_of n w.procs) key ∙ there) ready)
     (λ p s bytes. any_row (row (ask_of w p s bytes))) in
-    lent_by now newer (subst (Went Kept) is goes newer)
+    lent_by now newer (subst (Went ParentsStay) is goes newer)

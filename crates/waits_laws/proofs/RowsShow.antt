@@ -10,7 +10,7 @@ use Rattle.machine_world.specs.World.{Rest}
 use Rattle.machine_world.specs.Asks.{Ask, storage_of}
 use Rattle.machine_world.specs.Descriptors.{table_of}
 use Rattle.machine_world.specs.Rows.{row}
-use Rattle.machine_world.proofs.Kept.{Kept, Answers}
+use Rattle.machine_world.proofs.EachChange.{EachChange, Answers}
 use Rattle.machine_world.proofs.ByRows.{by_rows}
 use Rattle.machine_world.specs.Order.{AreCounted}
 use Rattle.waits_laws.proofs.Shown.{Shows, shows_itself}
@@ -38,7 +38,7 @@ module _ (a : Ask) (counts : AreCounted a.rest.files) where
   abbrev files : OpenFiles
   files = a.rest.files
 
-  kept : Kept (ShowsAsIn t files) a
+  kept : EachChange (ShowsAsIn t files) a
   kept = record {
     dup = λ free is. (shows-duplicated t files _ _ _, has-duplicated t files t _ _ _);
     dup3 = λ is. (shows-replaced t (storage_of a.rest) _ _ _ counts, has-replaced t (storage_of a.rest) t _ _ _);

@@ -22,7 +22,7 @@ use Rattle.watch_points.specs.declared.span.Span.{Span}
 use Rattle.watch_points.specs.declared.point.PointKind.{PointKind}
 use Rattle.watch_points.specs.Points.{Found, hits_in, with_hits}
 use Rattle.watch_points.specs.Near.{IsNear, near_in, seen_all, listed, told, rest_ran, rest_asked, behind_first, Left}
-use Rattle.watch_points.proofs.Kept.{with_hits-nil, with_hits-append}
+use Rattle.watch_points.proofs.HitLists.{with_hits-nil, with_hits-append}
 use Rattle.watch_points.proofs.Told.{near_in-append, near_in-nil, told-append, told_all, seen_step}
 
 -- ---- nothing is left

@@ -16,7 +16,7 @@ use Rattle.watch_points.specs.declared.span.Span.{Span}
 use Rattle.watch_points.specs.declared.point.PointKind.{PointKind}
 use Rattle.watch_points.specs.Points.{Found, IsShort, hit, is_data, is_hit, hits_in, with_hits}
 use Rattle.watch_points.specs.Near.{IsNear, near_to, is_near, near_in, seen_one, seen_all, end_one, end_all, end_at, listed, told}
-use Rattle.watch_points.proofs.Kept.{with_hits-nil}
+use Rattle.watch_points.proofs.HitLists.{with_hits-nil}
 use Rattle.watch_points.proofs.Asked.{Short, short_all, AtMostOne, one_fetched}
 
 pub near_in-append : (near : Near) (xs ys : List Asked) → near_in near (xs ++ ys) ≡ near_in near xs ++ near_in near ys

@@ -1,7 +1,7 @@
 -- By what is said of each run, and of its one memory by the laws of refusals.
 use Rattle.std.proofs.Common.{map}
 use Rattle.memory_world.specs.Physical.{opening_in}
-use Rattle.refusals_in_memory.proofs.Kept.{boots_are_regular_in, runs_keep_regular_in}
+use Rattle.refusals_in_memory.proofs.StaysRegular.{boots_are_regular_in, runs_keep_regular_in}
 use Rattle.suite_top.specs.Run.{start_line, opening}
 use Rattle.command_laws.proofs.BootedRuns.{can_boot, few_starts, closed, has_regular_worlds}
 use Rattle.command_laws.proofs.RunLaws.{reasonable}

@@ -4,7 +4,7 @@ use Rattle.rv32im_step.specs.declared.stop.Stop.TheVariants.{Call}
 use Rattle.machine_world.specs.Event.{event}
 use Rattle.kept_parts.specs.InMemory.{headers_of}
 use Rattle.kept_parts.specs.Stands.{world_of}
-use Rattle.kept_parts.proofs.Holding.{unstrayed_holds}
+use Rattle.kept_parts.proofs.Copies.BehindStrays.{unstrayed_holds}
 use Rattle.syscall_layer.specs.Parts.{RunParts}
 use Rattle.flat_machine.specs.declared.turn.After.TheVariants as after
 use Rattle.flat_machine.proofs.Events.{call_replied, call_turn_ends, call_full, call_strays, nothing_done}

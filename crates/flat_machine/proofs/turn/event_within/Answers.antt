@@ -5,7 +5,7 @@ use Rattle.machine_world.specs.Event.{event}
 use Rattle.kept_parts.specs.InMemory.{headers_of, physical_of}
 use Rattle.kept_parts.specs.Reach.{reach_of}
 use Rattle.kept_parts.specs.Stands.{world_of}
-use Rattle.kept_parts.proofs.Abouts.{some_about}
+use Rattle.kept_parts.proofs.Common.AnyRun.{some_about}
 use Rattle.syscall_layer.specs.Parts.{RunParts}
 use Rattle.flat_machine.specs.declared.turn.After.TheVariants as after
 use Rattle.flat_machine.proofs.Events.{trap_ends, refused_strays, nothing_done}

@@ -7,7 +7,7 @@ use Rattle.memory_world.specs.Physical.{has_stray}
 use Rattle.kept_parts.specs.Stands.{later}
 use Rattle.kept_parts.specs.InMemory.{headers_of, physical_of}
 use Rattle.kept_parts.specs.Reach.{reach_of}
-use Rattle.kept_parts.proofs.Abouts.{some_about}
+use Rattle.kept_parts.proofs.Common.AnyRun.{some_about}
 use Rattle.syscall_layer.specs.Parts.{RunParts}
 use Rattle.watch_points.specs.Points.{kind_of_point}
 use Rattle.flat_machine.specs.declared.turn.After.TheVariants as after

@@ -3,7 +3,7 @@ use Rattle.std.proofs.Common.{◌≡◌, Some, sym, ap, subst, ◌∙◌}
 use Rattle.std.proofs.lemmas.Option.{same_Some}
 use Rattle.vfork_exec.specs.Procs.{Listed, Lives, value_at, with_value_at}
 use Rattle.kept_parts.specs.declared.task.Task.{Task}
-use Rattle.kept_parts.proofs.ExecRegular.{value_freed, lives_freed}
+use Rattle.kept_parts.proofs.Execs.Regular.{value_freed, lives_freed}
 use Rattle.kept_parts.proofs.exec.switch.Goals as goal
 
 pub get_mut-task-requires : goal.get_mut-task-requires

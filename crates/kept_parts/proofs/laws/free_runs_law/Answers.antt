@@ -1,5 +1,5 @@
 use Rattle.std.proofs.Common.{sym}
-use Rattle.kept_parts.proofs.FreePages.{free_is}
+use Rattle.kept_parts.proofs.Common.FreePages.{free_is}
 use Rattle.kept_parts.proofs.laws.free_runs_law.Goals as goal
 
 pub returns : goal.returns

@@ -1,6 +1,6 @@
 -- By the first that is one.
 use Rattle.std.proofs.Common.{refl, sym}
-use Rattle.kept_parts.proofs.NotedStrays.{still_none, finds_first, finds_none}
+use Rattle.kept_parts.proofs.Common.NotedStrays.{still_none, finds_first, finds_none}
 use Rattle.kept_parts.proofs.reach.first_stray.Goals as goal
 
 pub loop-note-init : goal.loop-note-init

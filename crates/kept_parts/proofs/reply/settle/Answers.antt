@@ -1,5 +1,5 @@
 -- The break stays where it isn't asked to move.
-use Rattle.kept_parts.proofs.Settled.{stays_with}
+use Rattle.kept_parts.proofs.Replies.Replied.{stays_with}
 use Rattle.kept_parts.proofs.reply.settle.Goals as goal
 
 pub returns-in-Answer : goal.returns-in-Answer

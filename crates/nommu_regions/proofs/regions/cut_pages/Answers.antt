@@ -1,6 +1,6 @@
 use Rattle.std.proofs.Common.{get_or, arith, length-set}
 use Rattle.std.proofs.lemmas.Bool.Decides.{nat_tests}
-use Rattle.nommu_regions.proofs.Kept.{taken_by}
+use Rattle.nommu_regions.proofs.OneChanges.{taken_by}
 use Rattle.nommu_regions.proofs.Copies.{no_region}
 use Rattle.nommu_regions.proofs.Cut.{is_cut, kept_front, kept_back, cut_inside, is_front, is_front_and_back, freed}
 use Rattle.nommu_regions.proofs.regions.cut_pages.Goals as goal

@@ -4,7 +4,7 @@ use Rattle.std.specs.Prelude.{Some}
 use Rattle.byte_words.specs.ByteMap.{little}
 use Rattle.rv32im_table.specs.Table.{decoded}
 use Rattle.phys_mem.specs.Memory.{place}
-use Rattle.phys_mem.proofs.Kept.{decoded_kept, apart_kept, is_decoded, is_kept}
+use Rattle.phys_mem.proofs.AfterWrites.{decoded_kept, apart_kept, is_decoded, is_kept}
 use Rattle.phys_mem.proofs.slots.decoded_word.Goals as goal
 
 pub returns-then-at-eq0-clause-slot : goal.returns-then-at-eq0-clause-slot

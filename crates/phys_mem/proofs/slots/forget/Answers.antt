@@ -1,7 +1,7 @@
 -- The slots of all words were visited.
 use Rattle.std.proofs.Common.{◌≡◌, ◌+◌, ◌-◌, ◌/◌, ◌≤◌, ◌⊎◌, inl, inr, arith, refl}
 use Rattle.std.proofs.lemmas.Bool.{cases_lt}
-use Rattle.phys_mem.proofs.Kept.{all_words}
+use Rattle.phys_mem.proofs.AfterWrites.{all_words}
 use Rattle.phys_mem.proofs.slots.forget.Goals as goal
 
 pub returns : goal.returns

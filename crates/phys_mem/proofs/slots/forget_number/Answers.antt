@@ -1,6 +1,6 @@
 -- A number touches one word, or two.
 use Rattle.std.proofs.Common.{arith}
-use Rattle.phys_mem.proofs.Kept.{one_word, two_words}
+use Rattle.phys_mem.proofs.AfterWrites.{one_word, two_words}
 use Rattle.phys_mem.proofs.slots.forget_number.Goals as goal
 
 pub returns-then-at-len-gt4 : goal.returns-then-at-len-gt4

@@ -1,5 +1,5 @@
 -- At boot, and by each event, turn and run.
-use Rattle.refusals_in_memory.proofs.Kept.{boots_are_regular_in, events_keep_regular_in, turns_keep_regular_in, runs_keep_regular_in}
+use Rattle.refusals_in_memory.proofs.StaysRegular.{boots_are_regular_in, events_keep_regular_in, turns_keep_regular_in, runs_keep_regular_in}
 use Rattle.refusals_in_memory.proofs.laws.regular_in_memory_law.Goals as goal
 
 pub returns-clause-boots : goal.returns-clause-boots

@@ -9,7 +9,7 @@ use Rattle.run_setup.specs.Making.{brought_value}
 use Rattle.run_setup.proofs.Opened.{each_got}
 use Rattle.flat_machine.specs.State.{world}
 use Rattle.suite_top.specs.declared.course.Course.{Course}
-use Rattle.suite_top.specs.Kept.{keep_of}
+use Rattle.suite_top.specs.KeptItems.{keep_of}
 use Rattle.suite_top.specs.Telling.{mode_of, placement_of, kept_of, telling_value}
 use Rattle.suite_top.specs.Run.{opening}
 use Rattle.suite_top.proofs.Booted.{no_event_yet, kind_stays, events_fit, machine_events, machine_kind, boots_as}
@@ -20,12 +20,15 @@ use Rattle.suite_top.proofs.run.run_files.Goals as goal
 abbrev course_of : Manifest → Course
 course_of m = record { quanta = m.quanta; repeat = m.repeat; watches = m.watches; dumps = m.dumps }
 
-pub boot-requires-clause-args : goal.boot-requires-clause-args
-boot-requires-clause-args g c i s is =
-    rw (← length-map s.args.items (λ v. v.items)) (each_got HasArgument start_value c.args.loaded.manifest.starts.items i s is c.requires.loaded.manifest.each_start)
-
-pub boot-requires-clause-changes : goal.boot-requires-clause-changes
-boot-requires-clause-changes g c = λ id n is. omega (arith, c.in_ok-files.ensures.unchanged id n is)
+pub boot-requires-clause-setup : goal.boot-requires-clause-setup
+boot-requires-clause-setup g c = record {
+  some = c.requires.loaded.manifest.some_pages;
+  most = c.requires.loaded.manifest.most_pages;
+  changes = λ id n is. omega (arith, c.in_ok-files.ensures.unchanged id n is);
+  paths = c.in_ok-files.ensures.paths;
+  starts = rw (← length-map c.args.loaded.manifest.starts.items start_value) c.requires.loaded.manifest.starts;
+  args = λ i s is. rw (← length-map s.args.items (λ v. v.items)) (each_got HasArgument start_value c.args.loaded.manifest.starts.items i s is c.requires.loaded.manifest.each_start);
+}
 
 pub run_machine-requires-clause-ready : goal.run_machine-requires-clause-ready
 run_machine-requires-clause-ready g c = record {
@@ -33,7 +36,7 @@ run_machine-requires-clause-ready g c = record {
   events =
       events_fit (manifest_value c.args.loaded.manifest) c.requires.loaded.manifest _
       (sym (machine_events c.in_ok-machine.machine) ∙ no_event_yet _ _ _ c.in_ok-machine.ensures.world);
-  quiet = c.in_ok-machine.ensures.quiet;
+  quiet = c.in_ok-machine.ensures.opens.quiet;
   watches = c.requires.loaded.manifest.each_watch;
 }
 
@@ -77,7 +80,7 @@ returns-in_err-keep_items g c =
     rw (p.1, p.2)
     (behind_start telling m (vec_texts c.args.loaded.files.items) b brings _ _ (world c.in_ok-machine.machine) _ starts
     (keeps_all telling (mode_of telling) (course_of c.args.loaded.manifest) b.headers c.in_ok-machine.machine c.run_machine.new.machine c.in_ok-answer.answer _ _ _
-    (c.in_ok-machine.ensures.mode ∙ c.mode.ensures) c.in_ok-machine.ensures.memory c.in_ok-answer.ensures.halt c.in_ok-answer.ensures.go_on keeps))
+    (c.in_ok-machine.ensures.opens.mode ∙ c.mode.ensures) c.in_ok-machine.ensures.opens.memory c.in_ok-answer.ensures.halt c.in_ok-answer.ensures.go_on keeps))
 
 pub returns : goal.returns
 returns g c =
@@ -90,4 +93,4 @@ returns g c =
     let keeps = rw c.kept-kept.ensures at c.in_ok-keep_items.ensures in
     behind_start telling m (vec_texts c.args.loaded.files.items) b brings _ _ (world c.in_ok-machine.machine) _ starts
     (keeps_all telling (mode_of telling) (course_of c.args.loaded.manifest) b.headers c.in_ok-machine.machine c.run_machine.new.machine c.in_ok-answer.answer _ _ _
-    (c.in_ok-machine.ensures.mode ∙ c.mode.ensures) c.in_ok-machine.ensures.memory c.in_ok-answer.ensures.halt c.in_ok-answer.ensures.go_on keeps)
+    (c.in_ok-machine.ensures.opens.mode ∙ c.mode.ensures) c.in_ok-machine.ensures.opens.memory c.in_ok-answer.ensures.halt c.in_ok-answer.ensures.go_on keeps)

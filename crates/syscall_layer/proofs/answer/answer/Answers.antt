@@ -9,13 +9,13 @@ use Rattle.kept_parts.specs.Kept.{Kept}
 use Rattle.kept_parts.specs.Stands.{About}
 use Rattle.kept_parts.specs.Calls.{Caller, asked_by, reply_of}
 use Rattle.kept_parts.specs.InMemory.{headers_of}
-use Rattle.kept_parts.proofs.QuietRows.{mute_row, quiet_mute}
+use Rattle.kept_parts.proofs.Replies.QuietRows.{mute_row, quiet_mute}
 use Rattle.syscall_layer.specs.declared.classes.Class.TheVariants.{Exit, Change, Output, Waitid, Munmap, Clone, Execve, Mmap2, Effect}
 use Rattle.syscall_layer.specs.Classes.{IsEffect}
 use Rattle.syscall_layer.proofs.ByClass.{of_class, change_goes, output_goes, wait_goes}
 use Rattle.syscall_layer.proofs.MapRows.{quiet_munmap, quiet_mmap2}
-use Rattle.kept_parts.proofs.Outcomes.{IsRow, made_by, files_in, change_row, output_row, number_row, plain_row, exit_classed, row_classed, wait_classed, effect_classed, waitid_classed, clone_classed, exec_classed}
-use Rattle.kept_parts.proofs.CallsIn.{exit_reach, wait_reach, mute_reach, row_reach, carried_reach, effect_reach, waitid_reach, clone_reach, exec_reach}
+use Rattle.kept_parts.proofs.Replies.Outcomes.{IsRow, made_by, files_in, change_row, output_row, number_row, plain_row, exit_classed, row_classed, wait_classed, effect_classed, waitid_classed, clone_classed, exec_classed}
+use Rattle.kept_parts.proofs.Replies.InMemory.{exit_reach, wait_reach, mute_reach, row_reach, carried_reach, effect_reach, waitid_reach, clone_reach, exec_reach}
 use Rattle.syscall_layer.proofs.answer.answer.Given.{Over}
 use Rattle.syscall_layer.proofs.answer.answer.Goals as goal
 

@@ -8,9 +8,9 @@ use Rattle.kept_parts.specs.Copies.{HoldsFiles}
 use Rattle.kept_parts.specs.Stands.{world_of}
 use Rattle.kept_parts.specs.Calls.{asked_by}
 use Rattle.kept_parts.specs.InMemory.{headers_of, physical_of}
-use Rattle.kept_parts.proofs.Wakes.{settled_answers, unsettled_answers}
-use Rattle.kept_parts.proofs.CallsIn.{in_reach, settled_reach, unsettled_reach}
-use Rattle.kept_parts.proofs.GivenMemory.{is_unchanged}
+use Rattle.kept_parts.proofs.Replies.Wakes.{settled_answers, unsettled_answers}
+use Rattle.kept_parts.proofs.Replies.InMemory.{in_reach, settled_reach, unsettled_reach}
+use Rattle.kept_parts.proofs.Replies.GivenMemory.{is_unchanged}
 use Rattle.syscall_layer.proofs.Leaves.{stray_keeps, stray_never, yield_goes, yield_goes_on, wait_goes, wait_goes_on, wait_unnoted, wait_leaves_notes}
 use Rattle.syscall_layer.proofs.answer.answer_and_wake.Goals as goal
 

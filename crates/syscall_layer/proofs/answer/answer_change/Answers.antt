@@ -3,8 +3,8 @@ use Rattle.std.proofs.Common.{refl, sym, ap, ◌∙◌}
 use Rattle.std.proofs.lemmas.Result.{err_from_is_err_and}
 use Rattle.file_calls.specs.Calls.{is_change}
 use Rattle.kept_parts.specs.Calls.{asked_by}
-use Rattle.kept_parts.proofs.QuietRows.{quiet_row}
-use Rattle.kept_parts.proofs.Outcomes.{made_by, files_in, maps_none_changed, change_serves, room_for_row, quiet_full}
+use Rattle.kept_parts.proofs.Replies.QuietRows.{quiet_row}
+use Rattle.kept_parts.proofs.Replies.Outcomes.{made_by, files_in, maps_none_changed, change_serves, room_for_row, quiet_full}
 use Rattle.syscall_layer.proofs.answer.answer_change.Goals as goal
 
 pub returns-then-not-has_room-clause-serves : goal.returns-then-not-has_room-clause-serves

@@ -8,8 +8,8 @@ use Rattle.kept_parts.specs.Kept.{Kept}
 use Rattle.kept_parts.specs.Stands.{world_of}
 use Rattle.kept_parts.specs.Serves.{Answered, Tells}
 use Rattle.kept_parts.specs.Calls.{asked_by, reply_of, served_by}
-use Rattle.kept_parts.proofs.Outcomes.{effect_serves, effect_full}
-use Rattle.kept_parts.proofs.Runs.{runs_in}
+use Rattle.kept_parts.proofs.Replies.Outcomes.{effect_serves, effect_full}
+use Rattle.kept_parts.proofs.Common.RunningProcess.{runs_in}
 use Rattle.syscall_layer.proofs.Leaves.{effect_leaves}
 use Rattle.syscall_layer.proofs.answer.answer_effect.Goals as goal
 

@@ -6,7 +6,7 @@ use Rattle.kept_parts.specs.Kept.{Kept}
 use Rattle.kept_parts.specs.Stands.{world_of}
 use Rattle.kept_parts.specs.Serves.{Answered}
 use Rattle.kept_parts.specs.Calls.{asked_by}
-use Rattle.kept_parts.proofs.Outcomes.{exit_serves, exit_full}
+use Rattle.kept_parts.proofs.Replies.Outcomes.{exit_serves, exit_full}
 use Rattle.syscall_layer.proofs.answer.answer_exit.Goals as goal
 
 pub returns-then-not-has_room-clause-serves : goal.returns-then-not-has_room-clause-serves

@@ -18,8 +18,8 @@ use Rattle.kept_parts.specs.Serves.{Serves}
 use Rattle.kept_parts.specs.InMemory.{physical_of, ServesIn}
 use Rattle.kept_parts.specs.Calls.{Caller, asked_by}
 use Rattle.syscall_layer.proofs.MapRows.{row_mmap2, asked_want}
-use Rattle.kept_parts.proofs.Outcomes.{made_by, tree_in, files_in}
-use Rattle.kept_parts.proofs.PlainMemory.{answered_never, plain_in}
+use Rattle.kept_parts.proofs.Replies.Outcomes.{made_by, tree_in, files_in}
+use Rattle.kept_parts.proofs.Replies.PlainMemory.{answered_never, plain_in}
 use Rattle.syscall_layer.proofs.answer.answer_map.Given.{Over}
 use Rattle.syscall_layer.proofs.answer.answer_map.Goals.{After-want_of}
 use Rattle.syscall_layer.proofs.answer.answer_map.Goals as goal

@@ -13,11 +13,11 @@ use Rattle.kept_parts.specs.Reach.{writable}
 use Rattle.call_bytes.specs.Puts.{stray_range, access_at}
 use Rattle.kept_parts.specs.InMemory.{physical_of, ServesIn}
 use Rattle.kept_parts.specs.Calls.{asked_by, output_reply}
-use Rattle.kept_parts.proofs.Runs.{runs_in}
-use Rattle.kept_parts.proofs.Families.{can_run_lives}
-use Rattle.kept_parts.proofs.Outcomes.{output_serves, output_full}
-use Rattle.kept_parts.proofs.CallsIn.{in_reach}
-use Rattle.kept_parts.proofs.GivenMemory.{given_serves_in, given_full_in, given_strays_in, beyond, reach_inside, fits_unstrayed, strays_serve, found_by, none_beyond, room_by}
+use Rattle.kept_parts.proofs.Common.RunningProcess.{runs_in}
+use Rattle.kept_parts.proofs.Common.ProcessList.{can_run_lives}
+use Rattle.kept_parts.proofs.Replies.Outcomes.{output_serves, output_full}
+use Rattle.kept_parts.proofs.Replies.InMemory.{in_reach}
+use Rattle.kept_parts.proofs.Replies.GivenMemory.{given_serves_in, given_full_in, given_strays_in, beyond, reach_inside, fits_unstrayed, strays_serve, found_by, none_beyond, room_by}
 use Rattle.syscall_layer.proofs.answer.answer_outcome.Goals.{After-give}
 use Rattle.syscall_layer.proofs.answer.answer_outcome.Goals as goal
 

@@ -7,8 +7,8 @@ use Rattle.machine_world.specs.Rows.{row}
 use Rattle.memory_world.specs.Physical.{answered_in}
 use Rattle.kept_parts.specs.InMemory.{physical_of, InReach}
 use Rattle.kept_parts.specs.Calls.{asked_by}
-use Rattle.kept_parts.proofs.Outcomes.{made_by, files_in, tree_in, output_answers}
-use Rattle.kept_parts.proofs.CallsIn.{in_reach}
+use Rattle.kept_parts.proofs.Replies.Outcomes.{made_by, files_in, tree_in, output_answers}
+use Rattle.kept_parts.proofs.Replies.InMemory.{in_reach}
 use Rattle.syscall_layer.proofs.answer.answer_output.Goals as goal
 
 pub returns-in_err-outcome : goal.returns-in_err-outcome

@@ -9,9 +9,9 @@ use Rattle.kept_parts.specs.declared.served.Served.TheVariants.{Replied}
 use Rattle.kept_parts.specs.Stands.{world_of}
 use Rattle.kept_parts.specs.Serves.{Answered}
 use Rattle.kept_parts.specs.Calls.{asked_by}
-use Rattle.kept_parts.proofs.QuietRows.{Quiet}
+use Rattle.kept_parts.proofs.Replies.QuietRows.{Quiet}
 use Rattle.syscall_layer.proofs.MapRows.{row_munmap, quiet_unmaps}
-use Rattle.kept_parts.proofs.Outcomes.{made_by, change_serves, room_for_row, quiet_full}
+use Rattle.kept_parts.proofs.Replies.Outcomes.{made_by, change_serves, room_for_row, quiet_full}
 use Rattle.syscall_layer.proofs.answer.answer_unmap.Goals as goal
 
 pub returns-then-not-has_room-clause-serves : goal.returns-then-not-has_room-clause-serves

@@ -10,9 +10,9 @@ use Rattle.kept_parts.specs.Inside.{kept_of}
 use Rattle.kept_parts.specs.Regular.{Regular}
 use Rattle.kept_parts.specs.Stands.{process_of, world_of}
 use Rattle.kept_parts.specs.Serves.{Answered}
-use Rattle.kept_parts.proofs.Runs.{runs_in}
-use Rattle.kept_parts.proofs.Families.{can_run_lives}
-use Rattle.kept_parts.proofs.Waits.{regular_waiting, waits_serve}
+use Rattle.kept_parts.proofs.Common.RunningProcess.{runs_in}
+use Rattle.kept_parts.proofs.Common.ProcessList.{can_run_lives}
+use Rattle.kept_parts.proofs.Forks.Told.{regular_waiting, waits_serve}
 use Rattle.syscall_layer.proofs.Leaves.{waits_now}
 use Rattle.syscall_layer.proofs.answer.answer_wait.Goals as goal
 

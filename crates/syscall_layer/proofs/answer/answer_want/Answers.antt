@@ -7,11 +7,11 @@ use Rattle.memory_world.proofs.InMemory.{answered_begins}
 use Rattle.kept_parts.specs.declared.served.Served.TheVariants.{LogFull}
 use Rattle.kept_parts.specs.Stands.{world_of}
 use Rattle.kept_parts.specs.Calls.{asked_by}
-use Rattle.kept_parts.proofs.QuietRows.{quiet_mute}
+use Rattle.kept_parts.proofs.Replies.QuietRows.{quiet_mute}
 use Rattle.syscall_layer.proofs.MapRows.{quiet_mapped}
-use Rattle.kept_parts.proofs.MapMemory.{changed_goes}
-use Rattle.kept_parts.proofs.Outcomes.{change_serves, brings_full}
-use Rattle.kept_parts.proofs.PlainMemory.{answered_never, plain_goes}
+use Rattle.kept_parts.proofs.Mappings.Memory.{changed_goes}
+use Rattle.kept_parts.proofs.Replies.Outcomes.{change_serves, brings_full}
+use Rattle.kept_parts.proofs.Replies.PlainMemory.{answered_never, plain_goes}
 use Rattle.syscall_layer.proofs.answer.answer_want.Goals as goal
 
 pub returns-then-not-has_room_to_map-clause-serves : goal.returns-then-not-has_room_to_map-clause-serves

@@ -3,9 +3,9 @@ use Rattle.std.proofs.Common.{◌≡◌, [], refl}
 use Rattle.std.proofs.lemmas.Result.{err_from_is_err_and}
 use Rattle.memory_world.specs.Physical.{died_in, outside}
 use Rattle.kept_parts.specs.InMemory.{physical_of}
-use Rattle.kept_parts.proofs.Abouts.{some_about}
+use Rattle.kept_parts.proofs.Common.AnyRun.{some_about}
 use Rattle.syscall_layer.proofs.CallsKeep.{remains_same, signal_remains}
-use Rattle.kept_parts.proofs.CallsIn.{died_goes}
+use Rattle.kept_parts.proofs.Replies.InMemory.{died_goes}
 use Rattle.syscall_layer.proofs.CallsOn.{on_err}
 use Rattle.syscall_layer.proofs.answer.beyond_reach.Goals as goal
 

@@ -4,8 +4,8 @@ use Rattle.kept_parts.specs.Kept.{Kept}
 use Rattle.kept_parts.specs.Inside.{kept_of}
 use Rattle.kept_parts.specs.Regular.{Regular}
 use Rattle.kept_parts.specs.Recorded.{room_beside}
-use Rattle.kept_parts.proofs.Recorded.{beside_less}
-use Rattle.kept_parts.proofs.MapRooms.{many_beside, room_mapped}
+use Rattle.kept_parts.proofs.Common.Recorded.{beside_less}
+use Rattle.kept_parts.proofs.Mappings.LogRoom.{many_beside, room_mapped}
 use Rattle.syscall_layer.proofs.answer.has_room_to_map.Goals.{After-room}
 use Rattle.syscall_layer.proofs.answer.has_room_to_map.Goals as goal
 

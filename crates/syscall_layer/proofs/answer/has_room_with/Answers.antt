@@ -5,7 +5,7 @@ use Rattle.call_bytes.specs.Puts.{got_len}
 use Rattle.kept_parts.specs.Kept.{Kept}
 use Rattle.kept_parts.specs.Inside.{kept_of}
 use Rattle.kept_parts.specs.Recorded.{room_beside}
-use Rattle.kept_parts.proofs.MapRooms.{many_beside}
+use Rattle.kept_parts.proofs.Mappings.LogRoom.{many_beside}
 use Rattle.syscall_layer.proofs.answer.has_room_with.Goals as goal
 
 pub returns-clause-room : goal.returns-clause-room

@@ -1,6 +1,6 @@
 -- The process ends by SIGSEGV.
 use Rattle.std.proofs.lemmas.Result.{err_from_is_err_and}
-use Rattle.kept_parts.proofs.GivenMemory.{killed_by}
+use Rattle.kept_parts.proofs.Replies.GivenMemory.{killed_by}
 use Rattle.syscall_layer.proofs.answer.output_beyond_reach.Goals as goal
 
 pub returns-in_err-die-in-GoOn-clause-memory : goal.returns-in_err-die-in-GoOn-clause-memory

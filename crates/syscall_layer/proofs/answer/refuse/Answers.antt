@@ -5,7 +5,7 @@ use Rattle.machine_world.specs.Event.{answered}
 use Rattle.kept_parts.specs.Stands.{world_of}
 use Rattle.kept_parts.specs.Serves.{Serves}
 use Rattle.kept_parts.specs.Calls.{asked_by}
-use Rattle.kept_parts.proofs.Recorded.{refusal_plain}
+use Rattle.kept_parts.proofs.Common.Recorded.{refusal_plain}
 use Rattle.syscall_layer.proofs.answer.refuse.Goals as goal
 
 pub answer_effect-requires-clause-plain : goal.answer_effect-requires-clause-plain

@@ -7,7 +7,7 @@ use Rattle.memory_world.specs.Physical.{called_in}
 use Rattle.kept_parts.specs.InMemory.{headers_of, physical_of, InReach}
 use Rattle.kept_parts.specs.Reach.{is_whole}
 use Rattle.region_watch.specs.declared.mode.Mode.{Mode}
-use Rattle.kept_parts.proofs.Holding.{unstrayed_holds}
+use Rattle.kept_parts.proofs.Copies.BehindStrays.{unstrayed_holds}
 use Rattle.kept_parts.specs.Kept.{Kept}
 use Rattle.syscall_layer.specs.Inside.{parts_of}
 use Rattle.syscall_layer.specs.Parts.{RunParts, noted_by}

@@ -13,15 +13,15 @@ use Rattle.kept_parts.specs.Serves.{WaitsAt}
 use Rattle.kept_parts.specs.Copies.{HoldsFiles}
 use Rattle.kept_parts.specs.Stands.{world_of}
 use Rattle.kept_parts.specs.InMemory.{headers_of, physical_of, ServesIn}
-use Rattle.kept_parts.proofs.Abouts.{about_with, some_are_flats}
+use Rattle.kept_parts.proofs.Common.AnyRun.{about_with, some_are_flats}
 use Rattle.syscall_layer.proofs.CallsKeep.{call_remains}
 use Rattle.syscall_layer.proofs.CallsOn.{unchanged_by, stray_answers}
 use Rattle.syscall_layer.proofs.Leaves.{stray_keeps, yield_goes, wait_goes, wait_unnoted}
-use Rattle.kept_parts.proofs.Families.{can_run_lives}
-use Rattle.kept_parts.proofs.Holding.{unstrayed_holds}
-use Rattle.kept_parts.proofs.Outcomes.{serve_call, serve_stray}
-use Rattle.kept_parts.proofs.CallsIn.{MadeAs, own_made, call_goes, called_outside}
-use Rattle.kept_parts.proofs.GivenMemory.{beyond}
+use Rattle.kept_parts.proofs.Common.ProcessList.{can_run_lives}
+use Rattle.kept_parts.proofs.Copies.BehindStrays.{unstrayed_holds}
+use Rattle.kept_parts.proofs.Replies.Outcomes.{serve_call, serve_stray}
+use Rattle.kept_parts.proofs.Replies.InMemory.{MadeAs, own_made, call_goes, called_outside}
+use Rattle.kept_parts.proofs.Replies.GivenMemory.{beyond}
 use Rattle.syscall_layer.proofs.answer.serve_within.Goals as goal
 
 pub returns-in-Ok-clause-comes : goal.returns-in-Ok-clause-comes

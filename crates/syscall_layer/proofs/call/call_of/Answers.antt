@@ -11,8 +11,8 @@ use Rattle.kept_parts.specs.Kept.{Kept}
 use Rattle.kept_parts.specs.Inside.{kept_of}
 use Rattle.kept_parts.specs.Calls.{LivesIn, IsCall, Made}
 use Rattle.kept_parts.specs.Reach.{readable}
-use Rattle.kept_parts.proofs.Reached.{reached_bytes, reached_pages}
-use Rattle.kept_parts.proofs.Runs.{has_space, home_at, sent_is, call_is, unread_is}
+use Rattle.kept_parts.proofs.Common.WholeMemory.{reached_bytes, reached_pages}
+use Rattle.kept_parts.proofs.Common.RunningProcess.{has_space, home_at, sent_is, call_is, unread_is}
 use Rattle.syscall_layer.proofs.call.call_of.Goals as goal
 
 pub read_sent-requires : goal.read_sent-requires

@@ -5,9 +5,9 @@ use Rattle.call_log.specs.Errno.{refusal}
 use Rattle.std.specs.Prelude.{nat_le}
 use Rattle.kept_parts.specs.Kept.{Kept}
 use Rattle.kept_parts.specs.Regular.{IsRegular}
-use Rattle.kept_parts.proofs.Forks.{flags_serve, full_serves, fork_has_no_room, fork_serves}
-use Rattle.kept_parts.proofs.Runs.{runs_in}
-use Rattle.kept_parts.proofs.Families.{can_run_lives}
+use Rattle.kept_parts.proofs.Forks.Child.{flags_serve, full_serves, fork_has_no_room, fork_serves}
+use Rattle.kept_parts.proofs.Common.RunningProcess.{runs_in}
+use Rattle.kept_parts.proofs.Common.ProcessList.{can_run_lives}
 use Rattle.call_log.specs.declared.errno.Errno.TheVariants.{Eagain, Einval}
 use Rattle.syscall_layer.proofs.Leaves.{fork_leaves}
 use Rattle.syscall_layer.proofs.family.answer_clone.Goals as goal

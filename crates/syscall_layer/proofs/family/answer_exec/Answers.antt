@@ -15,8 +15,8 @@ use Rattle.kept_parts.specs.Kept.{Kept}
 use Rattle.kept_parts.specs.Serves.{Tells}
 use Rattle.kept_parts.specs.Families.{mark_at}
 use Rattle.kept_parts.specs.InMemory.{headers_of}
-use Rattle.kept_parts.proofs.ExecCalls.{no_path, no_strings, no_program, no_flat, runs_flat, by_outcome, by_refusal, exec_full}
-use Rattle.kept_parts.proofs.ExecMemory.{full_in, header_listed, by_outcome_in, by_refusal_in}
+use Rattle.kept_parts.proofs.Execs.Ways.{no_path, no_strings, no_program, no_flat, runs_flat, by_outcome, by_refusal, exec_full}
+use Rattle.kept_parts.proofs.Execs.Memory.{full_in, header_listed, by_outcome_in, by_refusal_in}
 use Rattle.syscall_layer.proofs.family.answer_exec.Given.{Over}
 use Rattle.syscall_layer.proofs.family.answer_exec.Goals.{After-program_strings, After-program_at}
 use Rattle.syscall_layer.proofs.family.answer_exec.Goals as goal

@@ -18,11 +18,11 @@ use Rattle.memory_world.specs.Physical.{answered_in, reaped_in}
 use Rattle.kept_parts.specs.InMemory.{physical_of, InReach}
 use Rattle.kept_parts.specs.Serves.{Answered, Tells}
 use Rattle.kept_parts.specs.Calls.{asked_by, output_reply}
-use Rattle.kept_parts.proofs.CallsIn.{in_reach}
-use Rattle.kept_parts.proofs.Holding.{holds_inside}
-use Rattle.kept_parts.proofs.GivenMemory.{is_unchanged}
+use Rattle.kept_parts.proofs.Replies.InMemory.{in_reach}
+use Rattle.kept_parts.proofs.Copies.BehindStrays.{holds_inside}
+use Rattle.kept_parts.proofs.Replies.GivenMemory.{is_unchanged}
 use Rattle.syscall_layer.proofs.ToldMemory.{reach_goes, told_goes, untold_goes}
-use Rattle.kept_parts.proofs.Waits.{info_ranges, regular_told, told_serves, untold_serves}
+use Rattle.kept_parts.proofs.Forks.Told.{info_ranges, regular_told, told_serves, untold_serves}
 use Rattle.syscall_layer.proofs.family.answer_told.Goals as goal
 
 pub answer_outcome-requires-clause-can : goal.answer_outcome-requires-clause-can

@@ -17,12 +17,12 @@ use Rattle.memory_world.specs.Physical.{waitid_in}
 use Rattle.kept_parts.specs.InMemory.{physical_of, InReach}
 use Rattle.kept_parts.specs.Serves.{Answered}
 use Rattle.kept_parts.specs.Calls.{asked_by}
-use Rattle.kept_parts.proofs.Runs.{runs_in}
-use Rattle.kept_parts.proofs.Families.{can_run_lives}
-use Rattle.kept_parts.proofs.CallsIn.{in_reach, same_reach}
-use Rattle.kept_parts.proofs.Holding.{holds_inside}
+use Rattle.kept_parts.proofs.Common.RunningProcess.{runs_in}
+use Rattle.kept_parts.proofs.Common.ProcessList.{can_run_lives}
+use Rattle.kept_parts.proofs.Replies.InMemory.{in_reach, same_reach}
+use Rattle.kept_parts.proofs.Copies.BehindStrays.{holds_inside}
 use Rattle.syscall_layer.proofs.ToldMemory.{fault_in, looked_in, childless_in, waiting_in}
-use Rattle.kept_parts.proofs.Waits.{is_told, looked_same, regular_waiting, waits_serve, fault_serves, looked_serves, childless_serves}
+use Rattle.kept_parts.proofs.Forks.Told.{is_told, looked_same, regular_waiting, waits_serve, fault_serves, looked_serves, childless_serves}
 use Rattle.syscall_layer.proofs.Leaves.{waits_now}
 use Rattle.syscall_layer.proofs.family.answer_waitid.Goals as goal
 

@@ -1,4 +1,4 @@
-use Rattle.watch_points.proofs.Kept.{with_hits-nil, with_hits-append, with_hits-first}
+use Rattle.watch_points.proofs.HitLists.{with_hits-nil, with_hits-append, with_hits-first}
 use Rattle.watch_points.proofs.laws.found_law.Goals as goal
 
 pub returns : goal.returns

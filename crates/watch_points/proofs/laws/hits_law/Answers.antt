@@ -1,4 +1,4 @@
-use Rattle.watch_points.proofs.Kept.{hits_in-append, hits_in-unwatched}
+use Rattle.watch_points.proofs.HitLists.{hits_in-append, hits_in-unwatched}
 use Rattle.watch_points.proofs.laws.hits_law.Goals as goal
 
 pub returns : goal.returns

@@ -1,6 +1,6 @@
 -- Where nothing is watched nothing is told.
 use Rattle.std.proofs.Common.{◌∙◌, sym}
-use Rattle.watch_points.proofs.Kept.{unwatched}
+use Rattle.watch_points.proofs.HitLists.{unwatched}
 use Rattle.watch_points.proofs.watched.run_watched.Goals as goal
 
 pub returns-then-is_empty-clause-hits : goal.returns-then-is_empty-clause-hits

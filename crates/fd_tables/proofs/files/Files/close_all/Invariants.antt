@@ -2,7 +2,7 @@
 use Rattle.std.proofs.Common.{◌≡◌}
 use Rattle.std.specs.Prelude.{◌||◌}
 use Rattle.std.specs.List.{range_with_len}
-use Rattle.fd_tables.specs.Kept.{KeepsSpare}
+use Rattle.fd_tables.specs.Spare.{KeepsSpare}
 use Rattle.fd_tables.specs.Changes.{storage, all_closed}
 use Rattle.fd_tables.proofs.files.Files.close_all.Given as goal
 

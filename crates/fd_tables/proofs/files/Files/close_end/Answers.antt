@@ -5,7 +5,7 @@ use Rattle.std.proofs.lemmas.List.{get_or-set_same}
 use Rattle.vfork_exec.specs.Keyed.{find, place_of, without, Falls}
 use Rattle.vfork_exec.proofs.Keyed.{falls_without}
 use Rattle.fd_tables.specs.Files.{Pipe, OpenFiles}
-use Rattle.fd_tables.specs.Kept.{KeptFiles}
+use Rattle.fd_tables.specs.Spare.{SpareFiles}
 use Rattle.fd_tables.specs.Pipes.{pipe_id, without_end, with_closed, is_closed, unless_closed, marked}
 use Rattle.fd_tables.specs.Inside.{unmarked, kept}
 use Rattle.fd_tables.proofs.Marks.{falls_set, unmarked_set, unmarked_without}
@@ -13,8 +13,8 @@ use Rattle.fd_tables.proofs.PipesThere.{here, nowhere, changed_is, gone_is, remo
 use Rattle.fd_tables.proofs.files.Files.close_end.Goals as goal
 
 -- the list behind the mark is the one before it
-old_pipes : (s new old : KeptFiles) (id : ℕ) → s ≡ new → new.open_files ≡ marked id old.open_files → s.open_files.pipes ≡ old.open_files.pipes
-old_pipes s new old id same is = ap (λ (k : KeptFiles). k.open_files.pipes) same ∙ ap (λ (fs : OpenFiles). fs.pipes) is
+old_pipes : (s new old : SpareFiles) (id : ℕ) → s ≡ new → new.open_files ≡ marked id old.open_files → s.open_files.pipes ≡ old.open_files.pipes
+old_pipes s new old id same is = ap (λ (k : SpareFiles). k.open_files.pipes) same ∙ ap (λ (fs : OpenFiles). fs.pipes) is
 
 now_closed : (ps : List Pipe) (at : ℕ) (p q now : Pipe) (write closed : Bool) → at < length ps → q ≡ get_or (set ps at now) at q → now ≡ with_closed write p → closed ≡ is_closed q → closed ≡ is_closed (with_closed write p)
 now_closed ps at p q now write closed below is made test =
@@ -25,7 +25,7 @@ unfolding without_end
 returns-then-at-len-clause-closed c =
     let id = c.args.id in
     let fs = c.args.self.now.open_files in
-    let same = ap (λ (k : KeptFiles). k.open_files.pipes) c.self.view_is in
+    let same = ap (λ (k : SpareFiles). k.open_files.pipes) c.self.view_is in
     let past : length c.self.inside.pipes.items ≤ c.pipe_place-at.result = omega (arith, c.if-at-len.true, c.len.ensures, c.self.inside.pipes.ok.0) in
     stays (λ p. unless_closed (with_closed c.args.write p)) fs id (nowhere fs id c.pipe_place-at.result c.self.inside.pipes.items same c.pipe_place-at.ensures past)
 
@@ -39,7 +39,7 @@ invariant_of-self c =
     let p = c.index_mut.result.now in
     let b = c.self-2.inside.made + 1 in
     let same : ps ≡ fs.pipes = old_pipes (kept c.self-2.inside) c.mark.new.self c.args.self.now id c.self-2.view_is c.mark.ensures.marked in
-    let before = ap (λ (k : KeptFiles). k.open_files.pipes) c.self.view_is in
+    let before = ap (λ (k : SpareFiles). k.open_files.pipes) c.self.view_is in
     let below : at < length ps = omega (arith, c.if-at-len.false, c.len.ensures, c.self.inside.pipes.ok.0, ap (λ (qs : List Pipe). length qs) same, ap (λ (qs : List Pipe). length qs) before) in
     let found = here fs id at ps p same c.pipe_place-at.ensures below c.index_mut.ensures.value in
     let rest : c.remove.new.self.items ≡ without pipe_id id ps =
@@ -58,7 +58,7 @@ invariant_of-self-else-is_closed c =
     let at = c.pipe_place-at.result in
     let p = c.index_mut.result.now in
     let same = old_pipes (kept c.self-2.inside) c.mark.new.self c.args.self.now c.args.id c.self-2.view_is c.mark.ensures.marked in
-    let before = ap (λ (k : KeptFiles). k.open_files.pipes) c.self.view_is in
+    let before = ap (λ (k : SpareFiles). k.open_files.pipes) c.self.view_is in
     let below : at < length ps = omega (arith, c.if-at-len.false, c.len.ensures, c.self.inside.pipes.ok.0, ap (λ (qs : List Pipe). length qs) same, ap (λ (qs : List Pipe). length qs) before) in
     let id_is : (get_or ps at p).id ≡ c.close.new.self.id =
     ap (λ (q : Pipe). q.id) (sym c.index_mut.ensures.value) ∙ sym (closed_id c.args.write p) ∙ ap (λ (q : Pipe). q.id) (sym c.close.ensures) in
@@ -81,12 +81,12 @@ returns-then-is_closed-clause-closed c =
     let now = c.close.new.self in
     let b = c.self-2.inside.made + 1 in
     let same : ps ≡ fs.pipes = old_pipes (kept c.self-2.inside) c.mark.new.self c.args.self.now id c.self-2.view_is c.mark.ensures.marked in
-    let before = ap (λ (k : KeptFiles). k.open_files.pipes) c.self.view_is in
+    let before = ap (λ (k : SpareFiles). k.open_files.pipes) c.self.view_is in
     let below : at < length ps = omega (arith, c.if-at-len.false, c.len.ensures, c.self.inside.pipes.ok.0, ap (λ (qs : List Pipe). length qs) same, ap (λ (qs : List Pipe). length qs) before) in
     let found = here fs id at ps p same c.pipe_place-at.ensures below c.index_mut.ensures.value in
     let closed : is_closed (with_closed write p) ≡ true = sym (now_closed ps at p c.index.result.now now write c.is_closed.result below c.index.ensures c.close.ensures c.is_closed.ensures) ∙ c.if-is_closed.true in
     ap (λ (qs : List Pipe). record (kept c.self-2.inside).open_files { pipes = qs }) c.remove.ensures.items
-    ∙ ap (λ (k : KeptFiles). record k.open_files { pipes = remove (set k.open_files.pipes at now) at }) c.self-2.view_is
+    ∙ ap (λ (k : SpareFiles). record k.open_files { pipes = remove (set k.open_files.pipes at now) at }) c.self-2.view_is
     ∙ ap (λ (gs : OpenFiles). record gs { pipes = remove (set gs.pipes at now) at }) c.mark.ensures.marked
     ∙ gone_is (λ q. unless_closed (with_closed write q)) b fs id at p now (subst (Falls pipe_id b) same c.self-2.invariant.numbers) found c.pipe_place-at.ensures (both_closed (with_closed write p) closed)
 
@@ -101,10 +101,10 @@ returns-else-is_closed-clause-closed c =
     let p = c.index_mut.result.now in
     let now = c.close.new.self in
     let same : ps ≡ fs.pipes = old_pipes (kept c.self-2.inside) c.mark.new.self c.args.self.now id c.self-2.view_is c.mark.ensures.marked in
-    let before = ap (λ (k : KeptFiles). k.open_files.pipes) c.self.view_is in
+    let before = ap (λ (k : SpareFiles). k.open_files.pipes) c.self.view_is in
     let below : at < length ps = omega (arith, c.if-at-len.false, c.len.ensures, c.self.inside.pipes.ok.0, ap (λ (qs : List Pipe). length qs) same, ap (λ (qs : List Pipe). length qs) before) in
     let found = here fs id at ps p same c.pipe_place-at.ensures below c.index_mut.ensures.value in
     let open_still : is_closed (with_closed write p) ≡ false = sym (now_closed ps at p c.index.result.now now write c.is_closed.result below c.index.ensures c.close.ensures c.is_closed.ensures) ∙ c.if-is_closed.false in
-    ap (λ (k : KeptFiles). record k.open_files { pipes = set k.open_files.pipes at now }) c.self-2.view_is
+    ap (λ (k : SpareFiles). record k.open_files { pipes = set k.open_files.pipes at now }) c.self-2.view_is
     ∙ ap (λ (gs : OpenFiles). record gs { pipes = set gs.pipes at now }) c.mark.ensures.marked
     ∙ changed_is (λ q. unless_closed (with_closed write q)) fs id at p now found c.pipe_place-at.ensures (left_open (with_closed write p) open_still ∙ ap (λ (q : Pipe). Some q) (sym c.close.ensures))

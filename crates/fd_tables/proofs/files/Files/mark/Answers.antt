@@ -4,7 +4,7 @@ use Rattle.std.specs.Prelude.{vec_capacity}
 use Rattle.std.specs.List.{insert}
 use Rattle.std.proofs.lemmas.List.{get_or_default}
 use Rattle.vfork_exec.specs.Keyed.{place_of}
-use Rattle.fd_tables.specs.Kept.{KeptFiles}
+use Rattle.fd_tables.specs.Spare.{SpareFiles}
 use Rattle.fd_tables.specs.Pipes.{pipe_id, with_number, marked}
 use Rattle.fd_tables.specs.Inside.{Rises, unmarked, kept}
 use Rattle.fd_tables.proofs.Marks.{place_in, place_is, there, put_there, rises_with, has_mark}
@@ -24,7 +24,7 @@ returns-then-index-id-clause-marked c =
     place_is id xs c.deref.result.now c.number_place.result c.unwrap_or-at.result c.len.result c.deref.ensures.value c.number_place.ensures (c.len.ensures ∙ c.self.inside.changed.ok.0) c.unwrap_or-at.ensures in
     let inside : place_in id xs < length xs = omega (arith, at, c.if-at-len.true, c.len-2.ensures, c.self.inside.changed.ok.0) in
     let same : with_number id xs ≡ xs = there id xs c.index.result.now inside (ap (λ n. get_or xs n c.index.result.now) (sym at) ∙ sym c.index.ensures ∙ c.if-index-id.true) in
-    let old = ap (λ (k : KeptFiles). k.open_files) c.self.view_is in
+    let old = ap (λ (k : SpareFiles). k.open_files) c.self.view_is in
     sym old ∙ ap (λ (ys : List ℕ). record (kept c.self.inside).open_files { changed = ys }) (sym same) ∙ ap (marked id) old
 
 pub unreachable-requires : goal.unreachable-requires
@@ -37,7 +37,7 @@ unreachable-requires c =
       | else-at-len-via-then-at-len+else-index-id w ↦ apart id c.unwrap_or-at.result w.index.result.now xs w.index.ensures w.if-index-id.false at
       | else-at-len-via-else-at-len w ↦ λ inside. absurd (omega (arith, inside, at, w.if-at-len.false, c.len-2.ensures, c.self.inside.changed.ok.0))
     ] in
-    let there : place_of pipe_id id c.self.inside.pipes.items < length c.self.inside.pipes.items = subst (λ (k : KeptFiles). place_of pipe_id id k.open_files.pipes < length k.open_files.pipes) (sym c.self.view_is) c.requires in
+    let there : place_of pipe_id id c.self.inside.pipes.items < length c.self.inside.pipes.items = subst (λ (k : SpareFiles). place_of pipe_id id k.open_files.pipes < length k.open_files.pipes) (sym c.self.view_is) c.requires in
     let h = has_mark id (vec_capacity c.self.inside.changed) xs c.self.inside.pipes.items 0 there c.self.invariant.ascending other c.self.invariant.marks in
     let ok = c.insert.ensures.succeeds (omega (arith, h.below, c.self.inside.changed.ok.0)) in
     cc (ok, c.if-is_err.ensures.negation)
@@ -53,7 +53,7 @@ invariant_of-self c =
       | else-at-len-via-then-at-len+else-index-id w ↦ apart id c.unwrap_or-at.result w.index.result.now xs w.index.ensures w.if-index-id.false at
       | else-at-len-via-else-at-len w ↦ λ inside. absurd (omega (arith, inside, at, w.if-at-len.false, c.len-2.ensures, c.self.inside.changed.ok.0))
     ] in
-    let there : place_of pipe_id id ps < length ps = subst (λ (k : KeptFiles). place_of pipe_id id k.open_files.pipes < length k.open_files.pipes) (sym c.self.view_is) c.requires in
+    let there : place_of pipe_id id ps < length ps = subst (λ (k : SpareFiles). place_of pipe_id id k.open_files.pipes < length k.open_files.pipes) (sym c.self.view_is) c.requires in
     let room = vec_capacity c.self.inside.changed in
     let h = has_mark id room xs ps 0 there c.self.invariant.ascending other c.self.invariant.marks in
     let is : c.insert.new.self.items ≡ with_number id xs =
@@ -77,4 +77,4 @@ returns-clause-marked c =
     ] in
     let is : c.insert.new.self.items ≡ with_number id xs =
     c.insert.ensures.items ∙ ap (λ b. cond b (insert xs c.unwrap_or-at.result id) xs) c.if-is_err.ensures.negation ∙ ap (λ n. insert xs n id) at ∙ put_there id xs 0 other in
-    ap (λ (ys : List ℕ). record (kept c.self.inside).open_files { changed = ys }) is ∙ ap (λ (k : KeptFiles). marked id k.open_files) c.self.view_is
+    ap (λ (ys : List ℕ). record (kept c.self.inside).open_files { changed = ys }) is ∙ ap (λ (k : SpareFiles). marked id k.open_files) c.self.view_is

@@ -3,7 +3,7 @@ use Rattle.std.proofs.Common.{◌≡◌, ◌+◌, ◌<◌, ◌≤◌, cond, leng
 use Rattle.vfork_exec.specs.Keyed.{place_of}
 use Rattle.vfork_exec.proofs.Keyed.{eqb_other}
 use Rattle.fd_tables.specs.Files.{Pipe}
-use Rattle.fd_tables.specs.Kept.{KeptFiles}
+use Rattle.fd_tables.specs.Spare.{SpareFiles}
 use Rattle.fd_tables.specs.Pipes.{pipe_id, pipe_at, pipe_bytes, pipe_taken, held_in, with_changed, marked}
 use Rattle.fd_tables.proofs.Marks.{falls_set, unmarked_set}
 use Rattle.fd_tables.proofs.PipesThere.{here, nowhere, still_there, changed_is, stays}
@@ -12,7 +12,7 @@ use Rattle.fd_tables.proofs.files.Files.pipe_take.Goals as goal
 pub take-requires : goal.take-requires
 unfolding pipe_bytes
 take-requires c =
-    let same = ap (λ (k : KeptFiles). k.open_files.pipes) c.self.view_is in
+    let same = ap (λ (k : SpareFiles). k.open_files.pipes) c.self.view_is in
     let below : c.pipe_place-at.result < length c.self.inside.pipes.items = omega (arith, c.if-at-len.true, c.len.ensures, c.self.inside.pipes.ok.0) in
     let is = here c.args.self.now.open_files c.args.id c.pipe_place-at.result c.self.inside.pipes.items c.index_mut.result.now same c.pipe_place-at.ensures below c.index_mut.ensures.value in
     omega (arith, c.requires, ap (λ o. length (held_in o)) is)
@@ -39,7 +39,7 @@ mark-requires c =
     let p = c.index_mut.result.now in
     let below : at < length ps = omega (arith, c.if-at-len.true, c.len.ensures, c.self.inside.pipes.ok.0) in
     let same : (get_or ps at p).id ≡ c.take.new.self.id = ap (λ (q : Pipe). q.id) (sym c.index_mut.ensures.value) ∙ ap (λ (q : Pipe). q.id) (sym c.take.ensures) in
-    still_there c.args.id ps at c.take.new.self p (c.pipe_place-at.ensures ∙ ap (λ (k : KeptFiles). place_of pipe_id c.args.id k.open_files.pipes) (sym c.self.view_is)) below same
+    still_there c.args.id ps at c.take.new.self p (c.pipe_place-at.ensures ∙ ap (λ (k : SpareFiles). place_of pipe_id c.args.id k.open_files.pipes) (sym c.self.view_is)) below same
 
 pub returns-then-at-len-clause-taken : goal.returns-then-at-len-clause-taken
 unfolding pipe_taken
@@ -49,11 +49,11 @@ returns-then-at-len-clause-taken c =
     let at = c.pipe_place-at.result in
     let p = c.index_mut.result.now in
     let f : Pipe → Option Pipe = λ q. Some (record q { bytes = drop c.args.n q.bytes }) in
-    let same = ap (λ (k : KeptFiles). k.open_files.pipes) c.self.view_is in
+    let same = ap (λ (k : SpareFiles). k.open_files.pipes) c.self.view_is in
     let below : at < length c.self.inside.pipes.items = omega (arith, c.if-at-len.true, c.len.ensures, c.self.inside.pipes.ok.0) in
     let found = here fs id at c.self.inside.pipes.items p same c.pipe_place-at.ensures below c.index_mut.ensures.value in
     c.mark.ensures.marked
-    ∙ ap (λ (k : KeptFiles). marked id (record k.open_files { pipes = set k.open_files.pipes at c.take.new.self })) c.self.view_is
+    ∙ ap (λ (k : SpareFiles). marked id (record k.open_files { pipes = set k.open_files.pipes at c.take.new.self })) c.self.view_is
     ∙ changed_is f fs id at p c.take.new.self found c.pipe_place-at.ensures (ap (λ (q : Pipe). Some q) (sym c.take.ensures))
     ∙ ap (λ t. cond t fs (with_changed f fs id (pipe_at fs id))) (sym (eqb_other c.args.n 0 c.if-n-eq0.false))
 
@@ -63,7 +63,7 @@ returns-else-at-len-clause-taken c =
     let id = c.args.id in
     let fs = c.args.self.now.open_files in
     let f : Pipe → Option Pipe = λ q. Some (record q { bytes = drop c.args.n q.bytes }) in
-    let same = ap (λ (k : KeptFiles). k.open_files.pipes) c.self.view_is in
+    let same = ap (λ (k : SpareFiles). k.open_files.pipes) c.self.view_is in
     let past : length c.self.inside.pipes.items ≤ c.pipe_place-at.result = omega (arith, c.if-at-len.false, c.len.ensures, c.self.inside.pipes.ok.0) in
     let none = nowhere fs id c.pipe_place-at.result c.self.inside.pipes.items same c.pipe_place-at.ensures past in
     stays f fs id none ∙ ap (λ t. cond t fs (with_changed f fs id (pipe_at fs id))) (sym (eqb_other c.args.n 0 c.if-n-eq0.false))

@@ -1,6 +1,6 @@
 -- The descriptors so far.
 use Rattle.std.proofs.Common.{◌≡◌, take}
-use Rattle.fd_tables.specs.Kept.{KeepsSpare}
+use Rattle.fd_tables.specs.Spare.{KeepsSpare}
 use Rattle.fd_tables.specs.Changes.{all_shared}
 use Rattle.fd_tables.proofs.files.Files.share_all.Given as goal
 

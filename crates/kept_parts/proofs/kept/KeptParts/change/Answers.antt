@@ -13,13 +13,13 @@ use Rattle.kept_parts.specs.Regular.{IsRegular}
 use Rattle.kept_parts.specs.Calls.{noted_call, Changed, ChangesParts, Caller, asked_by}
 use Rattle.kept_parts.specs.declared.task.Task.{Task}
 use Rattle.kept_parts.specs.Recorded.{event_recorded}
-use Rattle.kept_parts.proofs.Recorded.{room_inside, room_left}
-use Rattle.kept_parts.proofs.Runs.{value_found}
-use Rattle.kept_parts.proofs.Outcomes.{made_by, maps_none_changed}
-use Rattle.kept_parts.proofs.Sound.{plain_ask, counts, call_strays, copies_changed}
-use Rattle.kept_parts.proofs.Finishes.{regular_finished, is_rest, changed_by}
-use Rattle.kept_parts.proofs.CopiesStay.{room_counts}
-use Rattle.kept_parts.proofs.Holding.{holds_inside, clean, none_clean, calls_clean, cleaned, copies_clean}
+use Rattle.kept_parts.proofs.Common.Recorded.{room_inside, room_left}
+use Rattle.kept_parts.proofs.Common.RunningProcess.{value_found}
+use Rattle.kept_parts.proofs.Replies.Outcomes.{made_by, maps_none_changed}
+use Rattle.kept_parts.proofs.Copies.BehindCalls.{plain_ask, counts, call_strays, copies_changed}
+use Rattle.kept_parts.proofs.Replies.Finished.{regular_finished, is_rest, changed_by}
+use Rattle.kept_parts.proofs.Copies.BehindChanges.{room_counts}
+use Rattle.kept_parts.proofs.Copies.BehindStrays.{holds_inside, clean, none_clean, calls_clean, cleaned, copies_clean}
 use Rattle.kept_parts.proofs.kept.KeptParts.change.Goals as goal
 
 abbrev left : goal.After-drop-call-in_err-value → Kept

@@ -5,9 +5,9 @@ use Rattle.kept_parts.specs.Kept.{Kept}
 use Rattle.kept_parts.specs.Inside.{kept_of}
 use Rattle.kept_parts.specs.Calls.{LivesIn}
 use Rattle.kept_parts.specs.Gone.{gone}
-use Rattle.kept_parts.proofs.Settled.{kept_ended, nobody_ended, gone_lent, gone_owned}
-use Rattle.kept_parts.proofs.Sound.{copies_ended}
-use Rattle.kept_parts.proofs.Holding.{holds_inside, none_clean, cleaned, copies_clean}
+use Rattle.kept_parts.proofs.Ends.Steps.{kept_ended, nobody_ended, gone_lent, gone_owned}
+use Rattle.kept_parts.proofs.Copies.BehindCalls.{copies_ended}
+use Rattle.kept_parts.proofs.Copies.BehindStrays.{holds_inside, none_clean, cleaned, copies_clean}
 use Rattle.kept_parts.proofs.kept.KeptParts.depart.Goals as goal
 
 pub invariant_of-self : goal.invariant_of-self

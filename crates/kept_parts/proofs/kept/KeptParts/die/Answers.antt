@@ -10,11 +10,11 @@ use Rattle.kept_parts.specs.Stands.{world_of}
 use Rattle.kept_parts.specs.Serves.{Died}
 use Rattle.kept_parts.specs.declared.task.Task.{Task}
 use Rattle.kept_parts.specs.Recorded.{event_recorded}
-use Rattle.kept_parts.proofs.Runs.{value_found}
-use Rattle.kept_parts.proofs.Families.{can_run_lives}
-use Rattle.kept_parts.proofs.Holding.{holds_inside}
-use Rattle.kept_parts.proofs.Outcomes.{end_done}
-use Rattle.kept_parts.proofs.PlainMemory.{end_mem}
+use Rattle.kept_parts.proofs.Common.RunningProcess.{value_found}
+use Rattle.kept_parts.proofs.Common.ProcessList.{can_run_lives}
+use Rattle.kept_parts.proofs.Copies.BehindStrays.{holds_inside}
+use Rattle.kept_parts.proofs.Ends.Outcomes.{end_done}
+use Rattle.kept_parts.proofs.Ends.Memory.{end_mem}
 use Rattle.kept_parts.proofs.kept.KeptParts.die.Goals as goal
 
 pub returns-clause-dies : goal.returns-clause-dies

@@ -5,9 +5,9 @@ use Rattle.machine_world.specs.Event.{Outcome, at_process, trapped}
 use Rattle.kept_parts.specs.Kept.{Kept}
 use Rattle.kept_parts.specs.Stands.{world_of}
 use Rattle.kept_parts.specs.Serves.{Died}
-use Rattle.kept_parts.proofs.Abouts.{some_about}
-use Rattle.kept_parts.proofs.Wakes.{died_settled, settled_dies}
-use Rattle.kept_parts.proofs.CallsIn.{ending_in}
+use Rattle.kept_parts.proofs.Common.AnyRun.{some_about}
+use Rattle.kept_parts.proofs.Replies.Wakes.{died_settled, settled_dies}
+use Rattle.kept_parts.proofs.Replies.InMemory.{ending_in}
 use Rattle.kept_parts.proofs.kept.KeptParts.end_by_signal.Goals as goal
 
 pub returns-in_err-die-clause-dies : goal.returns-in_err-die-clause-dies

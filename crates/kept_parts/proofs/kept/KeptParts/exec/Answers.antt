@@ -12,13 +12,13 @@ use Rattle.kept_parts.specs.Inside.{kept_of}
 use Rattle.kept_parts.specs.Calls.{noted_call}
 use Rattle.kept_parts.specs.Reach.{whole_table}
 use Rattle.kept_parts.specs.Recorded.{event_recorded, program_recorded, room_beside}
-use Rattle.kept_parts.proofs.Recorded.{room_inside}
-use Rattle.kept_parts.proofs.Families.{can_run_lives}
-use Rattle.kept_parts.proofs.Boots.{same_parts}
-use Rattle.kept_parts.proofs.Loaded.{pages_loaded}
-use Rattle.kept_parts.proofs.ExecSteps.{Begun, begun_by, number_fits, sound_by, there_by, nobody_by, serves_lent, serves_own, holds_begun, holds_refused, ExecServes, refused_big, refused_run}
-use Rattle.kept_parts.proofs.ExecMemory.{ExecServesIn, memory_lent, memory_own, refused_big_in, refused_run_in}
-use Rattle.kept_parts.proofs.Holding.{holds_inside}
+use Rattle.kept_parts.proofs.Common.Recorded.{room_inside}
+use Rattle.kept_parts.proofs.Common.ProcessList.{can_run_lives}
+use Rattle.kept_parts.proofs.Starts.World.{same_parts}
+use Rattle.kept_parts.proofs.Starts.Loaded.{pages_loaded}
+use Rattle.kept_parts.proofs.Execs.Steps.{Begun, begun_by, number_fits, sound_by, there_by, nobody_by, serves_lent, serves_own, holds_begun, holds_refused, ExecServes, refused_big, refused_run}
+use Rattle.kept_parts.proofs.Execs.Memory.{ExecServesIn, memory_lent, memory_own, refused_big_in, refused_run_in}
+use Rattle.kept_parts.proofs.Copies.BehindStrays.{holds_inside}
 use Rattle.kept_parts.proofs.kept.KeptParts.exec.Given.{Over}
 use Rattle.kept_parts.proofs.kept.KeptParts.exec.Goals.{After-load-loaded, After-note_exec}
 use Rattle.kept_parts.proofs.kept.KeptParts.exec.Goals as goal

@@ -9,12 +9,12 @@ use Rattle.kept_parts.specs.Inside.{kept_of}
 use Rattle.kept_parts.specs.Calls.{LivesIn, noted_call, exit_of, after_exit}
 use Rattle.kept_parts.specs.declared.task.Task.{Task}
 use Rattle.kept_parts.specs.Recorded.{event_recorded}
-use Rattle.kept_parts.proofs.Runs.{value_found}
-use Rattle.kept_parts.proofs.Families.{can_run_lives}
-use Rattle.kept_parts.proofs.Recorded.{room_left}
-use Rattle.kept_parts.proofs.Outcomes.{exit_done}
-use Rattle.kept_parts.proofs.PlainMemory.{end_mem}
-use Rattle.kept_parts.proofs.Holding.{holds_inside}
+use Rattle.kept_parts.proofs.Common.RunningProcess.{value_found}
+use Rattle.kept_parts.proofs.Common.ProcessList.{can_run_lives}
+use Rattle.kept_parts.proofs.Common.Recorded.{room_left}
+use Rattle.kept_parts.proofs.Ends.Outcomes.{exit_done}
+use Rattle.kept_parts.proofs.Ends.Memory.{end_mem}
+use Rattle.kept_parts.proofs.Copies.BehindStrays.{holds_inside}
 use Rattle.kept_parts.proofs.kept.KeptParts.exit.Goals as goal
 
 pub note_call-requires-clause-room : goal.note_call-requires-clause-room

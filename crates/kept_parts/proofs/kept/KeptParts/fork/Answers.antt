@@ -12,12 +12,12 @@ use Rattle.kept_parts.specs.Regular.{Regular}
 use Rattle.kept_parts.specs.Inside.{kept_of}
 use Rattle.kept_parts.specs.Calls.{LivesIn, after_fork, noted_call}
 use Rattle.kept_parts.specs.Recorded.{event_recorded}
-use Rattle.kept_parts.proofs.Recorded.{room_inside, room_left}
-use Rattle.kept_parts.proofs.Runs.{runs_in, value_found}
-use Rattle.kept_parts.proofs.Families.{can_run_lives}
-use Rattle.kept_parts.proofs.Sound.{counts, call_strays, copies_called}
-use Rattle.kept_parts.proofs.Forks.{pids_fit, lives_still, procs_by, regular_forked}
-use Rattle.kept_parts.proofs.Holding.{holds_inside}
+use Rattle.kept_parts.proofs.Common.Recorded.{room_inside, room_left}
+use Rattle.kept_parts.proofs.Common.RunningProcess.{runs_in, value_found}
+use Rattle.kept_parts.proofs.Common.ProcessList.{can_run_lives}
+use Rattle.kept_parts.proofs.Copies.BehindCalls.{counts, call_strays, copies_called}
+use Rattle.kept_parts.proofs.Forks.Child.{pids_fit, lives_still, procs_by, regular_forked}
+use Rattle.kept_parts.proofs.Copies.BehindStrays.{holds_inside}
 use Rattle.kept_parts.proofs.kept.KeptParts.fork.Goals as goal
 
 pub vfork-requires-clause-pids : goal.vfork-requires-clause-pids

@@ -17,13 +17,13 @@ use Rattle.region_watch.specs.Private.{in_pages}
 use Rattle.kept_parts.specs.Calls.{LivesIn, noted_call, Gave, GaveIn, Caller}
 use Rattle.kept_parts.specs.declared.task.Task.{Task}
 use Rattle.kept_parts.specs.Recorded.{event_recorded, room_beside}
-use Rattle.kept_parts.proofs.Recorded.{room_alone}
-use Rattle.kept_parts.proofs.Runs.{runs_in, value_found}
-use Rattle.kept_parts.proofs.Sound.{counts, call_strays, copies_called}
-use Rattle.kept_parts.proofs.Waits.{replied_lives}
-use Rattle.kept_parts.proofs.Finishes.{regular_finished, gave_by, gave_in_by}
-use Rattle.kept_parts.proofs.Holding.{holds_inside, none_clean, cleaned, regular_clean, copies_clean}
-use Rattle.kept_parts.proofs.GivenMemory.{copies_given}
+use Rattle.kept_parts.proofs.Common.Recorded.{room_alone}
+use Rattle.kept_parts.proofs.Common.RunningProcess.{runs_in, value_found}
+use Rattle.kept_parts.proofs.Copies.BehindCalls.{counts, call_strays, copies_called}
+use Rattle.kept_parts.proofs.Forks.Told.{replied_lives}
+use Rattle.kept_parts.proofs.Replies.Finished.{regular_finished, gave_by, gave_in_by}
+use Rattle.kept_parts.proofs.Copies.BehindStrays.{holds_inside, none_clean, cleaned, regular_clean, copies_clean}
+use Rattle.kept_parts.proofs.Replies.GivenMemory.{copies_given}
 use Rattle.kept_parts.proofs.kept.KeptParts.give.Goals as goal
 
 abbrev new_parts : goal.After-finish → Kept

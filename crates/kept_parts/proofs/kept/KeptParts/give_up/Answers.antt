@@ -5,11 +5,12 @@ use Rattle.std.specs.Vec.{with_items}
 use Rattle.mmap_rules.specs.Held.{Held}
 use Rattle.kept_parts.specs.Inside.{kept_of}
 use Rattle.kept_parts.specs.Reach.{whole_table}
-use Rattle.kept_parts.proofs.Gone.{can_give_up}
-use Rattle.kept_parts.proofs.Stays.{regular_ids}
-use Rattle.kept_parts.proofs.Sound.{copies_without}
-use Rattle.kept_parts.proofs.Settled.{items_set, regular_given_up}
-use Rattle.kept_parts.proofs.Holding.{holds_inside, none_clean, cleaned, copies_clean}
+use Rattle.kept_parts.proofs.Ends.RegularWithout.{can_give_up}
+use Rattle.kept_parts.proofs.Common.StaysRegular.{regular_ids}
+use Rattle.kept_parts.proofs.Copies.BehindCalls.{copies_without}
+use Rattle.kept_parts.proofs.Replies.Replied.{items_set}
+use Rattle.kept_parts.proofs.Ends.Steps.{regular_given_up}
+use Rattle.kept_parts.proofs.Copies.BehindStrays.{holds_inside, none_clean, cleaned, copies_clean}
 use Rattle.kept_parts.proofs.kept.KeptParts.give_up.Goals as goal
 
 pub release-requires : goal.release-requires

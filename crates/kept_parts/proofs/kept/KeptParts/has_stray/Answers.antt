@@ -3,7 +3,7 @@ use Rattle.std.proofs.Common.{map, sym, ap, ◌∙◌}
 use Rattle.call_log.specs.Values.{note_value}
 use Rattle.memory_world.specs.Physical.{has_stray}
 use Rattle.kept_parts.specs.Kept.{Kept}
-use Rattle.kept_parts.proofs.NotedStrays.{stray_reversed}
+use Rattle.kept_parts.proofs.Common.NotedStrays.{stray_reversed}
 use Rattle.kept_parts.proofs.kept.KeptParts.has_stray.Goals as goal
 
 pub returns : goal.returns

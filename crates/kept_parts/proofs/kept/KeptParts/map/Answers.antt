@@ -27,18 +27,18 @@ use Rattle.mmap_rules.specs.Copies.{IsKnown, wanted_bytes}
 use Rattle.kept_parts.specs.Calls.{LivesIn, RoomFor, noted_call, Changed, Caller, asked_by}
 use Rattle.kept_parts.specs.MapsIn.{MapsIn}
 use Rattle.kept_parts.specs.Recorded.{room_beside}
-use Rattle.kept_parts.proofs.Recorded.{room_inside, room_left, few_brought}
-use Rattle.kept_parts.proofs.Brought.{Brought, brought_none, brought_by}
-use Rattle.kept_parts.proofs.Runs.{value_found, has_space}
-use Rattle.kept_parts.proofs.Settled.{items_set}
-use Rattle.kept_parts.proofs.Stays.{regular_ids}
-use Rattle.kept_parts.proofs.Finishes.{regular_finished, changed_ids}
-use Rattle.kept_parts.proofs.CopiesStay.{room_counts}
-use Rattle.kept_parts.proofs.Sound.{counts, call_strays}
-use Rattle.kept_parts.proofs.NamesOf.{name_regions, few_uses}
-use Rattle.kept_parts.proofs.Mapped.{with_maps, keeps_mapped, same_mapped, changed_mapped}
-use Rattle.kept_parts.proofs.MapMemory.{lives_finished, memory_mapped, physical_ids}
-use Rattle.kept_parts.proofs.Holding.{still, holds_inside, clean, none_clean, cleaned, regular_clean, copies_clean}
+use Rattle.kept_parts.proofs.Common.Recorded.{room_inside, room_left, few_brought}
+use Rattle.kept_parts.proofs.Mappings.Brought.{Brought, brought_none, brought_by}
+use Rattle.kept_parts.proofs.Common.RunningProcess.{value_found, has_space}
+use Rattle.kept_parts.proofs.Replies.Replied.{items_set}
+use Rattle.kept_parts.proofs.Common.StaysRegular.{regular_ids}
+use Rattle.kept_parts.proofs.Replies.Finished.{regular_finished, changed_ids}
+use Rattle.kept_parts.proofs.Copies.BehindChanges.{room_counts}
+use Rattle.kept_parts.proofs.Copies.BehindCalls.{counts, call_strays}
+use Rattle.kept_parts.proofs.Mappings.LiveRegions.{name_regions, few_uses}
+use Rattle.kept_parts.proofs.Mappings.Mapped.{with_maps, keeps_mapped, same_mapped, changed_mapped}
+use Rattle.kept_parts.proofs.Mappings.Memory.{lives_finished, memory_mapped, physical_ids}
+use Rattle.kept_parts.proofs.Copies.BehindStrays.{still, holds_inside, clean, none_clean, cleaned, regular_clean, copies_clean}
 use Rattle.kept_parts.proofs.kept.KeptParts.map.Given.{Over}
 use Rattle.kept_parts.proofs.kept.KeptParts.map.Goals as goal
 

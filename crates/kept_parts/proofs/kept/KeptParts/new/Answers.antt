@@ -1,6 +1,6 @@
 use Rattle.std.proofs.Common.{rules}
 use Rattle.kept_parts.proofs.kept.KeptParts.new.Goals as goal
-use Rattle.kept_parts.proofs.Begins.{sound_begins, whole_begins}
+use Rattle.kept_parts.proofs.Starts.BeforeFirst.{sound_begins, whole_begins}
 
 pub invariant_of-result-3 : goal.invariant_of-result-3
 invariant_of-result-3 c = (

@@ -2,7 +2,7 @@
 use Rattle.std.proofs.Common.{List, ap, ◌∙◌, ◌∷◌}
 use Rattle.call_log.specs.Notes.{Note, stray_note}
 use Rattle.kept_parts.specs.Inside.{kept_of}
-use Rattle.kept_parts.proofs.Outcomes.{noted_world}
+use Rattle.kept_parts.proofs.Replies.Outcomes.{noted_world}
 use Rattle.kept_parts.proofs.kept.KeptParts.note_stray.Goals as goal
 
 pub returns-clause-strays : goal.returns-clause-strays

@@ -9,8 +9,8 @@ use Rattle.kept_parts.specs.Kept.{Kept}
 use Rattle.kept_parts.specs.Stands.{world_of}
 use Rattle.kept_parts.specs.Serves.{Answered}
 use Rattle.kept_parts.specs.Calls.{asked_by}
-use Rattle.kept_parts.proofs.Recorded.{refusal_plain}
-use Rattle.kept_parts.proofs.Outcomes.{effect_serves}
+use Rattle.kept_parts.proofs.Common.Recorded.{refusal_plain}
+use Rattle.kept_parts.proofs.Replies.Outcomes.{effect_serves}
 use Rattle.kept_parts.proofs.kept.KeptParts.refuse.Goals as goal
 
 pub returns-in_err-reply-clause-serves : goal.returns-in_err-reply-clause-serves

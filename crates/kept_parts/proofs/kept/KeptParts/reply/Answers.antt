@@ -11,12 +11,12 @@ use Rattle.kept_parts.specs.Kept.{Kept}
 use Rattle.kept_parts.specs.Inside.{kept_of}
 use Rattle.kept_parts.specs.Calls.{LivesIn, value_of, brk_of, noted_call, RepliesBy}
 use Rattle.kept_parts.specs.Recorded.{event_recorded}
-use Rattle.kept_parts.proofs.Recorded.{room_left}
-use Rattle.kept_parts.proofs.Runs.{value_found}
-use Rattle.kept_parts.proofs.Settled.{items_set}
-use Rattle.kept_parts.proofs.Sound.{counts, call_strays, copies_called}
-use Rattle.kept_parts.proofs.Finishes.{regular_settled, replied_by}
-use Rattle.kept_parts.proofs.Holding.{holds_inside}
+use Rattle.kept_parts.proofs.Common.Recorded.{room_left}
+use Rattle.kept_parts.proofs.Common.RunningProcess.{value_found}
+use Rattle.kept_parts.proofs.Replies.Replied.{items_set}
+use Rattle.kept_parts.proofs.Copies.BehindCalls.{counts, call_strays, copies_called}
+use Rattle.kept_parts.proofs.Replies.Finished.{regular_settled, replied_by}
+use Rattle.kept_parts.proofs.Copies.BehindStrays.{holds_inside}
 use Rattle.kept_parts.proofs.kept.KeptParts.reply.Goals as goal
 
 abbrev new_parts : goal.After-finish → Kept

@@ -10,9 +10,9 @@ use Rattle.fd_tables.specs.Changes.{with_table}
 use Rattle.kept_parts.specs.Kept.{Kept}
 use Rattle.kept_parts.specs.Inside.{kept_of}
 use Rattle.kept_parts.specs.Reach.{whole_table}
-use Rattle.kept_parts.proofs.Boots.{refuses_by, Begun, begun_by, regular_by, copies_by, starts_by, process_started, note_pushed}
-use Rattle.kept_parts.proofs.Loaded.{pages_loaded}
-use Rattle.kept_parts.proofs.StartMemory.{lays_by, others_by}
+use Rattle.kept_parts.proofs.Starts.World.{refuses_by, Begun, begun_by, regular_by, copies_by, starts_by, process_started, note_pushed}
+use Rattle.kept_parts.proofs.Starts.Loaded.{pages_loaded}
+use Rattle.kept_parts.proofs.Starts.Memory.{lays_by, others_by}
 use Rattle.kept_parts.proofs.kept.KeptParts.start.Goals as goal
 
 pub returns-in_err-program-clause-starts : goal.returns-in_err-program-clause-starts

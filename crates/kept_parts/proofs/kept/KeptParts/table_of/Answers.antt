@@ -7,7 +7,7 @@ use Rattle.kept_parts.specs.Kept.{Kept}
 use Rattle.kept_parts.specs.Inside.{kept_of}
 use Rattle.region_watch.specs.declared.mode.Mode.{Mode}
 use Rattle.kept_parts.specs.Reach.{Reaches}
-use Rattle.kept_parts.proofs.Reached.{own_reaches, whole_reaches}
+use Rattle.kept_parts.proofs.Common.WholeMemory.{own_reaches, whole_reaches}
 use Rattle.kept_parts.proofs.kept.KeptParts.table_of.Goals as goal
 
 pub returns-in-Halt : goal.returns-in-Halt

@@ -14,15 +14,15 @@ use Rattle.kept_parts.specs.Calls.{noted_call, Changed, Caller, asked_by}
 use Rattle.kept_parts.specs.MapsIn.{UnmapsIn}
 use Rattle.kept_parts.specs.Reach.{whole_table}
 use Rattle.kept_parts.specs.Recorded.{event_recorded}
-use Rattle.kept_parts.proofs.Recorded.{room_left}
-use Rattle.kept_parts.proofs.Runs.{value_found, has_space}
-use Rattle.kept_parts.proofs.Settled.{items_set}
-use Rattle.kept_parts.proofs.Stays.{regular_ids}
-use Rattle.kept_parts.proofs.Finishes.{regular_finished, changed_ids}
-use Rattle.kept_parts.proofs.Sound.{counts, call_strays}
-use Rattle.kept_parts.proofs.NamesOf.{name_regions}
-use Rattle.kept_parts.proofs.Mapped.{with_maps, keeps_unmapped, changed_unmapped}
-use Rattle.kept_parts.proofs.Holding.{holds_inside, clean, none_clean, cleaned, regular_clean, copies_clean}
+use Rattle.kept_parts.proofs.Common.Recorded.{room_left}
+use Rattle.kept_parts.proofs.Common.RunningProcess.{value_found, has_space}
+use Rattle.kept_parts.proofs.Replies.Replied.{items_set}
+use Rattle.kept_parts.proofs.Common.StaysRegular.{regular_ids}
+use Rattle.kept_parts.proofs.Replies.Finished.{regular_finished, changed_ids}
+use Rattle.kept_parts.proofs.Copies.BehindCalls.{counts, call_strays}
+use Rattle.kept_parts.proofs.Mappings.LiveRegions.{name_regions}
+use Rattle.kept_parts.proofs.Mappings.Mapped.{with_maps, keeps_unmapped, changed_unmapped}
+use Rattle.kept_parts.proofs.Copies.BehindStrays.{holds_inside, clean, none_clean, cleaned, regular_clean, copies_clean}
 use Rattle.kept_parts.proofs.kept.KeptParts.unmap.Goals as goal
 
 pub unmap_in-unmapped-requires-clause-names : goal.unmap_in-unmapped-requires-clause-names

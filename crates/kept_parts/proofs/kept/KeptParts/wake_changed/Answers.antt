@@ -6,7 +6,7 @@ use Rattle.kept_parts.specs.Inside.{kept_of}
 use Rattle.kept_parts.specs.Regular.{IsRegular}
 use Rattle.kept_parts.specs.Stands.{world_of}
 use Rattle.kept_parts.specs.Awake.{awake_in}
-use Rattle.kept_parts.proofs.Wakes.{awake_last, awake_next, awake_world, regular_awake}
+use Rattle.kept_parts.proofs.Replies.Wakes.{awake_last, awake_next, awake_world, regular_awake}
 use Rattle.kept_parts.proofs.kept.KeptParts.wake_changed.Goals as goal
 
 pub loop-pipe-init : goal.loop-pipe-init

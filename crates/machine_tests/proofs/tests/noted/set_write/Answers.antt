@@ -5,9 +5,9 @@ use Rattle.rv32im_step.specs.declared.regs.Regs.{Regs}
 use Rattle.vfork_exec.specs.Procs.{Lives, with_value_at}
 use Rattle.kept_parts.specs.Kept.{Kept}
 use Rattle.kept_parts.specs.Inside.{kept_of}
-use Rattle.kept_parts.proofs.Runs.{has_space}
-use Rattle.kept_parts.proofs.Stays.{set_kept}
-use Rattle.kept_parts.proofs.Settled.{regular_replied}
+use Rattle.kept_parts.proofs.Common.RunningProcess.{has_space}
+use Rattle.kept_parts.proofs.Common.StaysRegular.{set_kept}
+use Rattle.kept_parts.proofs.Replies.Replied.{regular_replied}
 use Rattle.machine_tests.proofs.tests.noted.set_write.Goals as goal
 
 pub invariant_of-parts : goal.invariant_of-parts

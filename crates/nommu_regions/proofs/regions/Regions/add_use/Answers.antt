@@ -1,5 +1,5 @@
 use Rattle.std.proofs.Common.{◌+◌, ℕ, refl, arith}
-use Rattle.nommu_regions.proofs.Kept.{kept_used}
+use Rattle.nommu_regions.proofs.OneChanges.{kept_used}
 use Rattle.nommu_regions.proofs.Numbered.{read_at, region_at, inverse_set, uses_is, lives_set, others_stay}
 use Rattle.nommu_regions.proofs.regions.Regions.add_use.Goals as goal
 

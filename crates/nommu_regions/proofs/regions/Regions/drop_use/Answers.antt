@@ -1,6 +1,6 @@
 use Rattle.std.proofs.Common.{◌≡◌, ◌-◌, ℕ, length, refl, ap, arith}
 use Rattle.page_runs.specs.Free.{Free}
-use Rattle.nommu_regions.proofs.Kept.{kept_used, kept_gone, taken_by}
+use Rattle.nommu_regions.proofs.OneChanges.{kept_used, kept_gone, taken_by}
 use Rattle.nommu_regions.proofs.Numbered.{read_at, inverse_set, uses_is, others_stay, free_last, free_used}
 use Rattle.nommu_regions.proofs.regions.Regions.drop_use.Goals as goal
 

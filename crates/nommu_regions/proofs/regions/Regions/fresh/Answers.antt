@@ -4,7 +4,7 @@ use Rattle.page_runs.specs.Free.{Free, without}
 use Rattle.page_runs.proofs.Places.{gets}
 use Rattle.nommu_regions.specs.Regions.{free_of}
 use Rattle.nommu_regions.specs.Ids.{Numbered, start_of}
-use Rattle.nommu_regions.proofs.Kept.{kept_fresh, are_free_now}
+use Rattle.nommu_regions.proofs.OneChanges.{kept_fresh, are_free_now}
 use Rattle.byte_words.specs.Patches.{laid}
 use Rattle.nommu_regions.proofs.Numbered.{start_at, lives_new, region_new, inverse_set, others_set, away_from_free}
 use Rattle.nommu_regions.proofs.regions.Regions.fresh.Goals as goal

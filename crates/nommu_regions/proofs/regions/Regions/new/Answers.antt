@@ -2,7 +2,7 @@ use Rattle.nommu_regions.specs.declared.region.Region.{Region}
 use Rattle.std.proofs.Common.{◌≡◌, replicate, rules, refl, length}
 use Rattle.std.proofs.lemmas.List.{length-replicate}
 use Rattle.nommu_regions.specs.declared.region.Source.TheVariants.{Own}
-use Rattle.nommu_regions.proofs.Kept.{kept_new}
+use Rattle.nommu_regions.proofs.OneChanges.{kept_new}
 use Rattle.nommu_regions.proofs.Ids.{inverse_first}
 use Rattle.nommu_regions.proofs.regions.Regions.new.Goals as goal
 

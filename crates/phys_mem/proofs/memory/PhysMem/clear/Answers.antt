@@ -1,5 +1,5 @@
 -- What the slots say holds after the bytes are zero.
-use Rattle.phys_mem.proofs.Kept.{in_array, set_kept}
+use Rattle.phys_mem.proofs.AfterWrites.{in_array, set_kept}
 use Rattle.std.proofs.lemmas.List.{length-replicate}
 use Rattle.phys_mem.proofs.memory.PhysMem.clear.Goals as goal
 

@@ -1,6 +1,6 @@
 -- What the slots say holds after the copy.
 use Rattle.std.proofs.Common.{refl}
-use Rattle.phys_mem.proofs.Kept.{in_array, set_kept}
+use Rattle.phys_mem.proofs.AfterWrites.{in_array, set_kept}
 use Rattle.phys_mem.proofs.memory.PhysMem.copy_in.Goals as goal
 
 pub invariant_of-self : goal.invariant_of-self

@@ -1,5 +1,5 @@
 -- All is zero, and no word is kept.
-use Rattle.phys_mem.proofs.Kept.{new_kept}
+use Rattle.phys_mem.proofs.AfterWrites.{new_kept}
 use Rattle.phys_mem.proofs.memory.PhysMem.new.Goals as goal
 
 pub invariant_of-result : goal.invariant_of-result

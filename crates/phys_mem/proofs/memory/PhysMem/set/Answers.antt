@@ -1,5 +1,5 @@
 -- What the slots say holds after the write.
-use Rattle.phys_mem.proofs.Kept.{in_array, set_kept}
+use Rattle.phys_mem.proofs.AfterWrites.{in_array, set_kept}
 use Rattle.byte_words.proofs.ByteArrays.{length-little_bytes}
 use Rattle.phys_mem.proofs.memory.PhysMem.set.Goals as goal
 

@@ -30,6 +30,12 @@ returns-clause-memory c =
     let strayed = rw (← v) at c.watch_mode-mode.ensures.strayed in
     rw (← v) (λ noted. c.beyond_reach.ensures.memory (whole_reach c.watch_mode-mode.result (sym strayed ∙ noted)))
 
+pub returns-clause-ends : goal.returns-clause-ends
+returns-clause-ends c =
+    let v = c.self.view_is in
+    let strayed = rw (← v) at c.watch_mode-mode.ensures.strayed in
+    rw (← v) (λ noted. c.beyond_reach.ensures.ends (whole_reach c.watch_mode-mode.result (sym strayed ∙ noted)))
+
 pub returns-clause-unchanged : goal.returns-clause-unchanged
 returns-clause-unchanged c =
     let v = c.self.view_is in

@@ -1,6 +1,6 @@
 -- An end by a signal notes no stray access, and none that was noted goes, and no pipe is marked.
 use Rattle.std.proofs.Common.{sym, ◌∙◌}
-use Rattle.kept_parts.proofs.Abouts.{some_about}
+use Rattle.kept_parts.proofs.Common.AnyRun.{some_about}
 use Rattle.syscall_layer.proofs.CallsKeep.{signal_same, signal_unchanged}
 use Rattle.syscall_layer.proofs.parts.Parts.end_by_signal.Goals as goal
 
