@@ -1,5 +1,5 @@
 -- What a flat file says: the numbers of its header, the bytes behind the header, and the relocation records.
-use Rattle.std.specs.Prelude.{ℕ, ◌+◌, List}
+use Rattle.std.specs.Prelude.{ℕ, ◌+◌, ◌*◌, ◌/◌, List}
 
 pub record Values : Type 0 where
   -- where the program starts, counted from the start of the file
@@ -23,6 +23,10 @@ stored f = f.text + f.data_len
 -- the bytes of the whole image
 abbrev pub image_size : Values → ℕ
 image_size f = f.text + f.data_len + f.bss
+
+-- the bytes of stack for so many that were asked for: sp is a multiple of 16 (RISC-V calling convention)
+abbrev pub rounded_stack : ℕ → ℕ
+rounded_stack stack = (stack + 15) / 16 * 16
 
 -- the values with flags 1 (RAM)
 abbrev pub ram_values : ℕ → ℕ → ℕ → ℕ → ℕ → List ℕ → List ℕ → Values

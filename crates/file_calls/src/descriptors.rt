@@ -9,7 +9,7 @@ ghost use Rattle.file_calls.specs.Answers.{Answers};
 ghost use Rattle.file_calls.specs.Calls.{MadeBy};
 
 use crate::call::Call;
-use crate::flags::{CLOSE_ON_EXEC, is_none_or};
+use crate::flags::{O_CLOEXEC, is_none_or};
 use call_log::Errno;
 use fd_tables::Files;
 use mem_files::{FileFault, Tree};
@@ -28,10 +28,10 @@ pub(crate) fn dup3(tree: &mut Tree, files: &mut Files, call: &Call) -> Result<u3
     ensures spare { KeepsSpare files.old files.new }
 {
     let [old, new, flags, ..] = call.args;
-    if !is_none_or(flags, CLOSE_ON_EXEC) {
+    if !is_none_or(flags, O_CLOEXEC) {
         return Err(FileFault::Errno(Errno::Einval));
     }
-    files.dup3(tree, call.table, old, new, flags == CLOSE_ON_EXEC)?;
+    files.dup3(tree, call.table, old, new, flags == O_CLOEXEC)?;
     Ok(new)
 }
 

@@ -1,13 +1,23 @@
 //! The flags of calls.
 
-ghost use Rattle.std.specs.Prelude.{◌≡◌, ◌^◌, ◌<◌, ◌==◌, ◌||◌, ◌&&◌, not};
+ghost use Rattle.std.specs.Prelude.{◌≡◌, ◌==◌, ◌||◌, ◌&&◌, not};
 ghost use Rattle.machine_world.specs.PathCalls.{creates, exclusive, truncates, asks_folder, writes, access, way_of};
 
 use call_log::has_flag;
 use fd_tables::Way;
 
-/// O_CLOEXEC, the one flag that dup3 and pipe2 take.
-pub(crate) const CLOSE_ON_EXEC: u32 = 0x80000;
+const O_CREAT: u32 = 0x40;
+
+const O_EXCL: u32 = 0x80;
+
+const O_TRUNC: u32 = 0x200;
+
+const O_APPEND: u32 = 0x400;
+
+const O_DIRECTORY: u32 = 0x10000;
+
+/// The one flag that dup3 and pipe2 take, and one of openat.
+pub(crate) const O_CLOEXEC: u32 = 0x80000;
 
 /// The flags of openat.
 #[derive(Clone, Copy, PartialEq, Eq)]
@@ -27,28 +37,28 @@ impl OpenFlags {
     pub fn creates(self) -> bool
         ensures { result ≡ creates self.bits }
     {
-        has_flag(self.bits, 6)
+        has_flag(self.bits, O_CREAT)
     }
 
     /// O_EXCL
     pub fn is_exclusive(self) -> bool
         ensures { result ≡ exclusive self.bits }
     {
-        has_flag(self.bits, 7)
+        has_flag(self.bits, O_EXCL)
     }
 
     /// O_TRUNC
     pub fn truncates(self) -> bool
         ensures { result ≡ truncates self.bits }
     {
-        has_flag(self.bits, 9)
+        has_flag(self.bits, O_TRUNC)
     }
 
     /// O_DIRECTORY
     pub fn asks_folder(self) -> bool
         ensures { result ≡ asks_folder self.bits }
     {
-        has_flag(self.bits, 16)
+        has_flag(self.bits, O_DIRECTORY)
     }
 
     /// O_WRONLY or O_RDWR
@@ -65,8 +75,8 @@ impl OpenFlags {
         Way {
             read: self.access() != 1,
             write: self.writes(),
-            append: has_flag(self.bits, 10),
-            cloexec: has_flag(self.bits, 19),
+            append: has_flag(self.bits, O_APPEND),
+            cloexec: has_flag(self.bits, O_CLOEXEC),
         }
     }
 

@@ -6,7 +6,7 @@ ghost use Rattle.machine_world.specs.Descriptors.{pipe2_row, ends_bytes};
 ghost use Rattle.file_calls.specs.Outcomes.{GivesRow, CanTake, HasEnds};
 
 use crate::call::Call;
-use crate::flags::{CLOSE_ON_EXEC, is_none_or};
+use crate::flags::{O_CLOEXEC, is_none_or};
 use crate::outcome::{Outcome, Then};
 use call_log::{Errno, Got};
 use fd_tables::{Ends, Files};
@@ -19,7 +19,7 @@ pub(crate) fn pipe2(alloc: Global, files: &Files, call: &Call) -> Result<Outcome
     ensures ends { IfOk result (λ o. HasEnds files.now.open_files call.now.table o.then) }
 {
     let [at, flags, ..] = call.args;
-    if !is_none_or(flags, CLOSE_ON_EXEC) {
+    if !is_none_or(flags, O_CLOEXEC) {
         return Ok(Outcome::refusal(alloc, Errno::Einval));
     }
     let Some(ends) = files.two_free(call.table) else {
@@ -35,7 +35,7 @@ pub(crate) fn pipe2(alloc: Global, files: &Files, call: &Call) -> Result<Outcome
         got,
         then: Then::MakePipe {
             ends,
-            cloexec: flags == CLOSE_ON_EXEC,
+            cloexec: flags == O_CLOEXEC,
         },
     })
 }

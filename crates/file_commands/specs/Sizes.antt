@@ -1,8 +1,8 @@
 -- The numbers in the lines of `convert` and `check`.
-use Rattle.std.specs.Prelude.{◌≡◌, ℕ, ◌+◌, ◌-◌, ◌*◌, ◌/◌, ◌≤◌, List, length, None}
+use Rattle.std.specs.Prelude.{◌≡◌, ℕ, ◌+◌, ◌-◌, ◌≤◌, List, length, None}
 use Rattle.byte_words.specs.Numbers.{IsBytes}
 use Rattle.flat_layout.specs.Layout.{layout}
-use Rattle.bflt_format.specs.Values.{Values}
+use Rattle.bflt_format.specs.Values.{Values, rounded_stack}
 use Rattle.bflt_format.specs.Header.{entry, data_start, data_end, bss_end, stack_size, reloc_count}
 use Rattle.elf2flt_tool.specs.Word.{records}
 use Rattle.elf2flt_tool.specs.Fault.{fault}
@@ -19,13 +19,13 @@ pub record Sizes : Type 0 where
   -- the offset of the first instruction in the flat file
   pub entry : ℕ
 
--- of the ELF file e: T, D and B of its layout, the stack rounded up to 16, the numbers at which its recorded words begin, and its entry behind a header of 64 bytes
+-- of the ELF file e: T, D and B of its layout, the rounded stack, the numbers at which its recorded words begin, and its entry behind a header of 64 bytes
 abbrev pub sizes : (e : List ℕ) (stack : ℕ) → Sizes
 sizes e stack = record {
   text = (layout e).text;
   data_len = (layout e).data_len;
   bss = (layout e).bss;
-  stack = (stack + 15) / 16 * 16;
+  stack = rounded_stack stack;
   records = length (records e);
   entry = 64 + (layout e).entry;
 }

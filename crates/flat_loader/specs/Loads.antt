@@ -7,6 +7,7 @@ use Rattle.phys_mem.specs.Memory.{place as place_of}
 use Rattle.nommu_regions.specs.declared.region.Region.{Region}
 use Rattle.nommu_regions.specs.declared.region.Source.TheVariants.{Own}
 use Rattle.nommu_regions.specs.Regions.{AreFree, free_of}
+use Rattle.nommu_regions.specs.Ids.{new_region}
 use Rattle.mmap_rules.specs.Space.{memory_base, in_range}
 use Rattle.mmap_rules.specs.Held.{Held, page_address}
 use Rattle.bflt_format.specs.Values.{Values}
@@ -24,7 +25,7 @@ block_page kind regions need = first_of (free_of regions).runs (place kind (free
 
 -- the region of a program's block
 abbrev pub block_region : ℕ → ℕ → Region
-block_region page pages = record { first = page; pages = pages; source = Own; uses = 1 }
+block_region page pages = new_region page pages Own
 
 -- what is kept of a space that begins, in a memory of so many pages
 abbrev pub held_begin : ℕ → Loading → Held
@@ -40,6 +41,13 @@ held_begin pages l = record {
 abbrev pub page_loading : Values → ℕ → List (List ℕ) → List (List ℕ) → Loading
 page_loading f page args env = flat_loading f (page_address page) args env
 
+-- a program stands in its block: it owns just its first bytes, the header is its flat file's, and all other bytes are as before
+pub record StandsInBlock (f : Values) (l : Loading) (old new : List ℕ) : Type 0 where
+  pub own : (a : ℕ) → in_range (own_range l) a ≡ true → byte_of memory_base new a ≡ begin_bytes l a
+  pub header : slice_range new (place_of l.block) (place_of l.block + header_len) ≡ take header_len (spell f)
+  pub others : (a : ℕ) → in_block l a ≡ false → byte_of memory_base new a ≡ byte_of memory_base old a
+  pub len : length new ≡ length old
+
 -- the program stands in the free run that the placement takes, and all else is as before
 pub record IsLoaded (kind : Kind) (f : Values) (args env : List (List ℕ)) (old : List Region) (mem_old : List ℕ) (new : List Region) (mem_new : List ℕ) (loaded : Loaded) : Type 0 where
   pub fits : frame_fits (flat_original f) args env ≡ true
@@ -51,10 +59,7 @@ pub record IsLoaded (kind : Kind) (f : Values) (args env : List (List ℕ)) (old
   pub pages : loaded.pages ≡ block_pages (flat_original f)
   pub regs : loaded.regs ≡ begin_regs (page_loading f page args env)
   pub space : loaded.space ≡ held_begin (length old) (page_loading f page args env)
-  pub own : (a : ℕ) → in_range (own_range (page_loading f page args env)) a ≡ true → byte_of memory_base mem_new a ≡ begin_bytes (page_loading f page args env) a
-  pub header : slice_range mem_new (place_of (page_address page)) (place_of (page_address page) + header_len) ≡ take header_len (spell f)
-  pub others : (a : ℕ) → in_block (page_loading f page args env) a ≡ false → byte_of memory_base mem_new a ≡ byte_of memory_base mem_old a
-  pub len : length mem_new ≡ length mem_old
+  pub stands : StandsInBlock f (page_loading f page args env) mem_old mem_new
 
 -- what loading gives and leaves: the host may have no memory at any time, and then nothing changes
 abbrev pub Loads : Kind → Values → List (List ℕ) → List (List ℕ) → List Region → List ℕ → List Region → List ℕ → Result Loaded LoadRefusal → Type 0

@@ -1,7 +1,7 @@
 -- What a loader knows of a program, and the block of memory that it needs.
 use Rattle.std.specs.Prelude.{ℕ, ◌+◌, ◌*◌, ◌/◌}
 use Rattle.byte_words.specs.ByteMap.{Bytes}
-use Rattle.bflt_format.specs.Values.{Values, image_size}
+use Rattle.bflt_format.specs.Values.{Values, image_size, rounded_stack}
 use Rattle.bflt_format.specs.Image.{flat_image}
 use Rattle.mmap_rules.specs.Space.{page_size}
 
@@ -21,9 +21,9 @@ flat_original f = record { image = flat_image f; size = image_size f; entry = f.
 abbrev pub header_len : ℕ
 header_len = 64
 
--- the stack's bytes: sp is a multiple of 16 (RISC-V calling convention)
+-- the stack's bytes
 abbrev pub stack_len : Original → ℕ
-stack_len o = (o.stack + 15) / 16 * 16
+stack_len o = rounded_stack o.stack
 
 -- the block holds header, image and stack, in whole pages
 unfoldable pub block_pages : Original → ℕ

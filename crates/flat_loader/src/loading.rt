@@ -1,17 +1,16 @@
 //! Loading: a program into a block that is there, and a program with a block and a space of its own.
 
-ghost use Rattle.std.specs.Prelude.{◌≡◌, ◌+◌, ◌*◌, ◌%◌, ◌^◌, ◌<◌, ◌≤◌, ℕ, List, length, replicate, take, true, false, slice_index, slice_range, slice_set};
-ghost use Rattle.byte_words.specs.ByteMap.{byte_of};
+ghost use Rattle.std.specs.Prelude.{◌≡◌, ◌+◌, ◌*◌, ◌%◌, ◌^◌, ◌<◌, ◌≤◌, length, replicate, true, slice_index, slice_set};
 ghost use Rattle.byte_words.specs.Patches.{painted};
-ghost use Rattle.phys_mem.specs.Memory.{Within, place};
+ghost use Rattle.phys_mem.specs.Memory.{Within};
 ghost use Rattle.page_runs.specs.Choosers.{IsChooser, kind_of};
-ghost use Rattle.bflt_format.specs.Spelling.{spell, words_text, header_words};
-ghost use Rattle.mmap_rules.specs.Space.{memory_base, page_size, in_range};
-ghost use Rattle.flat_loader.specs.Original.{flat_original, header_len, block_len as block_len_of};
+ghost use Rattle.bflt_format.specs.Spelling.{words_text, header_words};
+ghost use Rattle.mmap_rules.specs.Space.{page_size};
+ghost use Rattle.flat_loader.specs.Original.{flat_original, block_len as block_len_of};
 ghost use Rattle.flat_loader.specs.Frame.{texts, frame_fits};
 ghost use Rattle.flat_loader.specs.Placed.{image_patches};
-ghost use Rattle.flat_loader.specs.Begin.{flat_loading, own_range, in_block, begin_bytes, begin_regs};
-ghost use Rattle.flat_loader.specs.Loads.{Loads, RefusesLoad, load_refusal};
+ghost use Rattle.flat_loader.specs.Begin.{flat_loading, begin_regs};
+ghost use Rattle.flat_loader.specs.Loads.{Loads, RefusesLoad, StandsInBlock, load_refusal};
 
 use crate::block::{HEADER_LEN, block_len, block_pages, image_len, stack_len};
 use crate::frame::{frame_fits, frame_len, frame_start, write_frame};
@@ -74,12 +73,7 @@ pub fn load_at(
     requires page { block % page_size ≡ 0 }
     requires within { Within mem.old block (block_len_of (flat_original flat.now)) }
     ensures regs { result ≡ begin_regs (flat_loading flat.now block (texts args.now) (texts env.now)) }
-    ensures own { let l = flat_loading flat.now block (texts args.now) (texts env.now) in
-        (a : ℕ) → in_range (own_range l) a ≡ true → byte_of memory_base mem.new a ≡ begin_bytes l a }
-    ensures header { slice_range mem.new (place block) (place block + header_len) ≡ take header_len (spell flat.now) }
-    ensures others { let l = flat_loading flat.now block (texts args.now) (texts env.now) in
-        (a : ℕ) → in_block l a ≡ false → byte_of memory_base mem.new a ≡ byte_of memory_base mem.old a }
-    ensures length { length mem.new ≡ length mem.old }
+    ensures stands { StandsInBlock flat.now (flat_loading flat.now block (texts args.now) (texts env.now)) mem.old mem.new }
 {
     let _pages = mem.pages();
     write_image(mem, block, flat);

@@ -1,5 +1,5 @@
 -- What mmap2 and munmap leave of the spaces and of all that they map.
-use Rattle.std.specs.Prelude.{◌≡◌, ℕ, ◌*◌, ◌==◌, ◌||◌, Bool, true, false, List, length, Option, Some, Result, Ok, Err, ⊤, slice_get, slice_index, slice_set}
+use Rattle.std.specs.Prelude.{◌≡◌, ℕ, ◌==◌, ◌||◌, Bool, true, false, List, Option, Some, Result, Ok, Err, ⊤, slice_index, slice_set}
 use Rattle.std.specs.declared.alloc.AllocError.{AllocError}
 use Rattle.page_runs.specs.declared.place.Kind.{Kind}
 use Rattle.call_log.specs.declared.errno.Errno.{Errno}
@@ -17,7 +17,7 @@ use Rattle.file_calls.specs.declared.call.Call.{Call}
 use Rattle.mmap_rules.specs.declared.map_fault.MapFault.{MapFault}
 use Rattle.mmap_rules.specs.declared.map_fault.MapFault.TheVariants.{Enomem, Memory}
 use Rattle.mmap_rules.specs.Held.{Held, AreMappings}
-use Rattle.mmap_rules.specs.MapState.{map_state, mapped, Maps, NameRegions, AreFew, freed, unmapped, Unmaps}
+use Rattle.mmap_rules.specs.MapState.{map_state, mapped, Maps, freed, unmapped, Unmaps}
 
 -- munmap and mmap2
 abbrev pub is_mapping : ℕ → Bool
@@ -39,15 +39,6 @@ pub record IsWanted (nodes : Inodes) (call : Call) (want : Want) : Type 0 where
   pub known : IsKnown nodes want
   pub pages : AsksPages want
   pub asked : IsAsked call want
-
--- what the space of a number, the regions and the memory are where something can be mapped in it
-pub record CanMap (number : ℕ) (spaces : List (Option Held)) (regions : List Region) (mem : List ℕ) : Type 0 where
-  -- the space has as many pages as there are regions, and so has memory
-  pub pages : (h : Held) → slice_get spaces number ≡ Some (Some h) → h.pages ≡ length regions
-  pub memory : length mem ≡ 4096 * length regions
-  -- its mappings name live regions, and a region has room for one use more
-  pub names : (h : Held) → slice_get spaces number ≡ Some (Some h) → NameRegions regions h.maps
-  pub few : AreFew regions
 
 -- the space of a number, after what is wanted was mapped in it
 pub record MapsIn (kind : Kind) (bytes : List ℕ) (want : Want) (number : ℕ) (h : Held) (old new : List (Option Held)) (rs now : List Region) (mem after : List ℕ) (result : Result ℕ MapFault) : Type 0 where

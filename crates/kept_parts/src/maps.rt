@@ -8,7 +8,7 @@ ghost use Rattle.mem_files.specs.Inodes.{bytes_of};
 ghost use Rattle.mmap_rules.specs.Held.{Held};
 ghost use Rattle.mmap_rules.specs.Want.{wanted, AsksPages};
 ghost use Rattle.mmap_rules.specs.Copies.{wanted_bytes};
-ghost use Rattle.mmap_rules.specs.MapState.{MapState, NameRegions, file_in};
+ghost use Rattle.mmap_rules.specs.MapState.{CanMap, MapState, NameRegions, file_in};
 ghost use Rattle.mmap_rules.specs.MapState.{mapped as mapped_in};
 ghost use Rattle.vfork_exec.specs.Procs.{Lives};
 ghost use Rattle.mmap_rules.specs.Mappings.{hit, file_pages};
@@ -20,7 +20,7 @@ ghost use Rattle.kept_parts.specs.Stands.{About, world_of};
 ghost use Rattle.kept_parts.specs.Calls.{Caller, RoomFor, asked_by, ChangesParts};
 ghost use Rattle.kept_parts.specs.Recorded.{room_beside};
 ghost use Rattle.kept_parts.specs.Leaves.{MapLeaves};
-ghost use Rattle.kept_parts.specs.MapsIn.{CanMap, MapsIn, UnmapsIn, IsAddress, IsWanted, is_file, status_of};
+ghost use Rattle.kept_parts.specs.MapsIn.{MapsIn, UnmapsIn, IsAddress, IsWanted, is_file, status_of};
 
 use crate::keep::or_unreserve;
 use crate::kept::KeptParts;
@@ -54,7 +54,7 @@ fn map_in<F: Fn(&[Run], u32) -> Option<usize>>(
 ) -> Result<u32, MapFault>
     requires chooser { IsChooser F.pre F.post chooser.now }
     requires home { HasSpace spaces.old asked.space }
-    requires fits { CanMap asked.space spaces.old regions.old.regions mem.old }
+    requires fits { (h : Held) → slice_get spaces.old asked.space ≡ Some (Some h) → CanMap h regions.old.regions mem.old }
     requires want { AsksPages asked.want }
     ensures ids { regions.new.starts ≡ regions.old.starts }
     ensures maps { (h : Held) → slice_get spaces.old asked.space ≡ Some (Some h) →

@@ -1,13 +1,14 @@
 -- A live copy holds its file, as long as that wasn't changed.
-use Rattle.std.specs.Prelude.{◌≡◌, ℕ, ◌*◌, ◌<◌, List, take, drop, replicate, Some, slice_get}
+use Rattle.std.specs.Prelude.{◌≡◌, ℕ, ◌*◌, ◌<◌, List, take, drop, replicate, Some, Result, IfOk, slice_get}
 use Rattle.mem_files.specs.Inodes.{Inode, Inodes, inode_at, bytes_in, bytes_of as bytes_of_file}
 use Rattle.nommu_regions.specs.declared.region.Region.{Region}
 use Rattle.nommu_regions.specs.declared.region.Source.{Source}
 use Rattle.nommu_regions.specs.declared.region.Source.TheVariants.{Own, Copy}
 use Rattle.mmap_rules.specs.declared.want.Want.{Want}
 use Rattle.mmap_rules.specs.declared.want.Want.TheVariants.{Anon, File}
+use Rattle.mmap_rules.specs.declared.map_fault.MapFault.{MapFault}
 use Rattle.mmap_rules.specs.Space.{page_size}
-use Rattle.mmap_rules.specs.Mappings.{file_pages}
+use Rattle.mmap_rules.specs.Mappings.{file_pages, page_at}
 
 -- the bytes of so many pages of memory
 abbrev pub pages_at : List ℕ → (first pages : ℕ) → List ℕ
@@ -46,3 +47,8 @@ pages_of (File pages first write id change) = pages
 abbrev pub wanted_bytes : Inodes → Want → List ℕ
 wanted_bytes nodes (Anon pages) = replicate (page_size * pages) 0
 wanted_bytes nodes (File pages first write id change) = file_pages (bytes_of_file nodes id) first pages
+
+-- copies hold their file, and the pages that were mapped have what is wanted
+pub record HoldWanted (nodes : Inodes) (want : Want) (regions : List Region) (mem : List ℕ) (result : Result ℕ MapFault) : Type 0 where
+  pub copies : AllHold regions mem nodes
+  pub bytes : IfOk result (λ addr. pages_at mem (page_at addr) (pages_of want) ≡ wanted_bytes nodes want)

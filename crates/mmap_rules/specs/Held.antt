@@ -1,11 +1,13 @@
 -- What is kept of a private space beside its bytes, and how it changes.
-use Rattle.std.specs.Prelude.{ℕ, ◌≡◌, ◌+◌, ◌-◌, ◌*◌, ◌/◌, ◌%◌, ◌==◌, ◌≤◌, true, false, ◌&&◌, nat_le, if◌then◌else◌, List, [], ◌∷◌, count_by, Some, slice_get}
+use Rattle.std.specs.Prelude.{ℕ, ◌≡◌, ◌+◌, ◌-◌, ◌*◌, ◌/◌, ◌%◌, ◌==◌, ◌≤◌, true, false, ◌&&◌, nat_le, if◌then◌else◌, List, [], ◌∷◌, count_by, length, Some, slice_get}
+use Rattle.std.specs.List.{sum_by}
 use Rattle.nommu_regions.specs.declared.region.Region.{Region}
 use Rattle.nommu_regions.specs.declared.region.Source.TheVariants.{Own}
 use Rattle.nommu_regions.specs.Regions.{IsLive, with_uses, is_copy}
 use Rattle.mmap_rules.specs.declared.mapping.Mapping.{Mapping}
+use Rattle.mmap_rules.specs.declared.page_owner.PageOwner.{PageOwner}
 use Rattle.mmap_rules.specs.Space.{memory_base, page_size}
-use Rattle.mmap_rules.specs.Owners.{IsShaped}
+use Rattle.mmap_rules.specs.Owners.{IsShaped, IsTable}
 
 -- the mappings, oldest first, with the program's block at the head; the break, and the area in which it moves, both ends
 -- included; and how many pages memory has
@@ -67,6 +69,12 @@ AreMappings pages maps = (j : ℕ) (m : Mapping) → slice_get maps j ≡ Some m
 -- the places in the list that a mapping may need: an anonymous one can be cut down to single pages
 abbrev pub places_of : Mapping → ℕ
 places_of m = if m.range.anonymous then m.pages else 1
+
+-- a space's table is that of its mappings, each is one, and the list has the places that they may need
+pub record IsKept (owners : List PageOwner) (maps : List Mapping) (room : ℕ) : Type 0 where
+  pub table : IsTable owners maps
+  pub mappings : AreMappings (length owners) maps
+  pub places : sum_by places_of maps ≤ room
 
 -- a region's run names it: each mapping of the list can give up one use, one after the other
 abbrev pub CanRelease : List Region → List Mapping → Type 0

@@ -1,5 +1,5 @@
 -- What mapping and unmapping change: what is kept of a space, the regions, and the bytes of memory.
-use Rattle.std.specs.Prelude.{◌≡◌, ℕ, ◌+◌, ◌-◌, ◌*◌, ◌/◌, ◌^◌, ◌==◌, ◌<◌, ◌≤◌, Bool, true, false, List, [], ◌∷◌, ◌++◌, count_by, replicate, Option, Some, None, slice_get, slice_set, Result, Ok, Err, ⊤}
+use Rattle.std.specs.Prelude.{◌≡◌, ℕ, ◌+◌, ◌-◌, ◌*◌, ◌/◌, ◌^◌, ◌==◌, ◌<◌, ◌≤◌, Bool, true, false, List, [], ◌∷◌, ◌++◌, count_by, length, replicate, Option, Some, None, slice_get, slice_set, Result, Ok, Err, ⊤}
 use Rattle.byte_words.specs.Patches.{laid}
 use Rattle.page_runs.specs.declared.place.Kind.{Kind}
 use Rattle.page_runs.specs.Place.{place, first_of}
@@ -152,6 +152,16 @@ pub record NameRegions (rs : List Region) (maps : List Mapping) : Type 0 where
 -- one use more of each can be counted
 abbrev pub AreFew : List Region → Type 0
 AreFew rs = (id : ℕ) (r : Region) → slice_get rs id ≡ Some r → r.uses + 1 < 2 ^ 32
+
+-- the space lies in a memory of these regions, of each of which one use more can be counted
+pub record LiesIn (h : Held) (rs : List Region) : Type 0 where
+  pub pages : h.pages ≡ length rs
+  pub names : NameRegions rs h.maps
+  pub few : AreFew rs
+
+pub record CanMap (h : Held) (rs : List Region) (mem : List ℕ) : Type 0 where
+  pub lies : LiesIn h rs
+  pub memory : length mem ≡ page_size * length rs
 
 -- no region has more uses than so many
 abbrev pub AreAtMost : ℕ → List Region → Type 0

@@ -76,6 +76,13 @@ is_range addr size m = m.range.from == addr && m.range.size == size
 abbrev pub can_lose : (addr size : ℕ) → Mapping → Bool
 can_lose addr size m = m.range.anonymous && nat_le m.range.from addr && nat_le (addr + size) (m.range.from + m.range.size)
 
+-- so many whole pages, one at least, from an address on are an anonymous mapping's, which stands at a place of the list
+pub record CanLose (maps : List Mapping) (place addr pages : ℕ) : Type 0 where
+  pub begins : addr % page_size ≡ 0
+  pub some : 0 < pages
+  pub there : place < length maps
+  pub can : (m : Mapping) → slice_get maps place ≡ Some m → can_lose addr (page_size * pages) m ≡ true
+
 -- the page at an address
 abbrev pub page_at : ℕ → ℕ
 page_at addr = (addr - memory_base) / page_size

@@ -23,4 +23,4 @@ pub use owners::Owners;
 pub use page_owner::PageOwner;
 pub use space::{Space, SpaceRoom};
 pub use steps::Steps;
-pub use want::{FileSide, Want, check_mmap2, pages_for};
+pub use want::{FileSide, MAP_ANONYMOUS, PROT_WRITE, Want, check_mmap2, pages_for};

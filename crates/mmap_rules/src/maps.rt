@@ -1,22 +1,21 @@
 //! Mappings that come (Linux, mmap(2) and "No-MMU memory mapping support").
 
-ghost use Rattle.std.specs.Prelude.{ℕ, List, ◌≡◌, ◌+◌, ◌-◌, ◌*◌, ◌^◌, ◌<◌, ◌≤◌, [], ◌∷◌, ◌++◌, false, Some, None, Err, IfOk, OnOk, IfSome, is_some, length, option_map, slice_get, take, drop, vec_capacity};
+ghost use Rattle.std.specs.Prelude.{ℕ, List, ◌≡◌, ◌+◌, ◌-◌, ◌*◌, ◌^◌, ◌<◌, ◌≤◌, [], ◌∷◌, ◌++◌, false, Some, None, Err, OnOk, IfSome, is_some, length, option_map, take, drop, vec_capacity};
 ghost use Rattle.std.specs.List.{sum_by};
 ghost use Rattle.page_runs.specs.Choosers.{IsChooser, kind_of};
 ghost use Rattle.page_runs.specs.Place.{place};
 ghost use Rattle.mem_files.specs.Inodes.{bytes_of};
 ghost use Rattle.nommu_regions.specs.declared.region.Source.TheVariants.{Own};
-ghost use Rattle.nommu_regions.specs.Regions.{AreRegions, free_of};
+ghost use Rattle.nommu_regions.specs.Regions.{free_of};
 ghost use Rattle.nommu_regions.specs.Ids.{Lives, region_of, start_of};
 ghost use Rattle.mmap_rules.specs.declared.map_fault.MapFault.TheVariants.{Enomem};
-ghost use Rattle.mmap_rules.specs.Owners.{IsTable};
-ghost use Rattle.mmap_rules.specs.Held.{AreMappings, places_of};
+ghost use Rattle.mmap_rules.specs.Held.{IsKept, places_of};
 ghost use Rattle.page_runs.specs.declared.place.Kind.{Kind};
 ghost use Rattle.mmap_rules.specs.Want.{AsksPages};
-ghost use Rattle.mmap_rules.specs.Copies.{AllHold, IsKnown, pages_at, pages_of, wanted_bytes};
-ghost use Rattle.mmap_rules.specs.Mappings.{run_mapping, part_mapping, copied_from, filled, page_at, IsNewRun, CopyHas, CanAdd};
+ghost use Rattle.mmap_rules.specs.Copies.{AllHold, HoldWanted, IsKnown};
+ghost use Rattle.mmap_rules.specs.Mappings.{run_mapping, part_mapping, copied_from, filled, IsNewRun, CopyHas, CanAdd};
 ghost use Rattle.mmap_rules.specs.Chosen.{part_at, part_for, new_run, bytes_copied, file_source};
-ghost use Rattle.mmap_rules.specs.MapState.{MapState, map_state, mapped, in_fresh_run, in_copy, file_in, Maps, NameRegions, AreFew};
+ghost use Rattle.mmap_rules.specs.MapState.{MapState, map_state, mapped, in_fresh_run, in_copy, file_in, Maps, CanMap, LiesIn};
 
 use crate::map_fault::MapFault;
 use crate::mapping::{Mapping, Range};
@@ -160,15 +159,12 @@ fn make_room(maps: &mut Vec<Mapping>, more: u32) -> Result<(), AllocError>
 
 /// A mapping more, for which there is room.
 fn add_mapping(maps: &mut Vec<Mapping>, owners: &mut Owners, mapping: Mapping)
-    requires table { IsTable owners.old maps.old.items }
-    requires mappings { AreMappings (length owners.old) maps.old.items }
+    requires kept { IsKept owners.old maps.old.items (vec_capacity maps.old) }
     requires can { CanAdd owners.old mapping }
     requires room { sum_by places_of maps.old.items + places_of mapping ≤ vec_capacity maps.old }
     ensures maps { maps.new.items ≡ maps.old.items ++ mapping ∷ [] }
+    ensures kept { IsKept owners.new maps.new.items (vec_capacity maps.new) }
     ensures pages { length owners.new ≡ length owners.old }
-    ensures table { IsTable owners.new maps.new.items }
-    ensures mappings { AreMappings (length owners.old) maps.new.items }
-    ensures places { sum_by places_of maps.new.items ≤ vec_capacity maps.new }
 {
     owners.add(&mapping.range);
     maps.push_reserved(mapping);
@@ -224,17 +220,13 @@ impl Space {
         first: u32,
         pages: u32,
     ) -> Result<u32, MapFault>
-        requires pages { self.old.pages ≡ length regions.old.regions }
-        requires regions { AreRegions regions.old.regions }
-        requires most { length regions.old.regions ≤ 16384 }
-        requires names { NameRegions regions.old.regions self.old.maps }
-        requires few { AreFew regions.old.regions }
+        requires lies { LiesIn self.old regions.old.regions }
         requires some { 0 < pages }
-        requires live { Lives regions.old copy }
         requires copy { CopyHas regions.old.regions (start_of regions.old copy) first pages }
         ensures maps { (mem : List ℕ) → Maps (in_copy (map_state self.old regions.old.regions mem) first pages (region_of regions.old copy)) (map_state self.old regions.old.regions mem) (map_state self.new regions.new.regions mem) result }
         ensures ids { regions.new.starts ≡ regions.old.starts }
     {
+        let _memory = regions.pages();
         make_room(&mut self.maps, 1)?;
         let region = regions.region(copy);
         regions.add_use(copy);
@@ -253,23 +245,18 @@ impl Space {
         chooser: &Chooser<F>,
     ) -> Result<u32, MapFault>
         requires chooser { IsChooser F.pre F.post chooser.now }
-        requires pages { self.old.pages ≡ length regions.old.regions }
-        requires memory { length mem.old ≡ 4096 * length regions.old.regions }
-        requires regions { AreRegions regions.old.regions }
-        requires most { length regions.old.regions ≤ 16384 }
-        requires names { NameRegions regions.old.regions self.old.maps }
-        requires few { AreFew regions.old.regions }
+        requires can { CanMap self.old regions.old.regions mem.old }
         requires run { IsNewRun run.now.pages run.now.writes run.now.anonymous run.now.source }
         requires bytes { length bytes.now ≤ 4096 * run.now.pages }
         ensures maps { Maps (in_fresh_run (map_state self.old regions.old.regions mem.old) (kind_of chooser.now) run.now.pages run.now.writes run.now.anonymous run.now.source (filled (4096 * run.now.pages) bytes.now)) (map_state self.old regions.old.regions mem.old) (map_state self.new regions.new.regions mem.new) result }
         ensures refused { is_some (place (kind_of chooser.now) (free_of regions.old.regions).runs run.now.pages) ≡ false → result ≡ Err Enomem }
         ensures ids { regions.new.starts ≡ regions.old.starts }
     {
+        let most = regions.pages();
         if !regions.fits(run.pages) {
             return Err(MapFault::Enomem);
         }
         let places = if run.anonymous { run.pages } else { 1 };
-        let most = regions.pages();
         prove!(places <= most);
         make_room(&mut self.maps, places)?;
         let Some(id) = regions.fresh(mem, run.pages, run.source, chooser) else {
@@ -293,16 +280,12 @@ impl Space {
         chooser: &Chooser<F>,
     ) -> Result<u32, MapFault>
         requires chooser { IsChooser F.pre F.post chooser.now }
-        requires pages { self.old.pages ≡ length regions.old.regions }
-        requires memory { length mem.old ≡ 4096 * length regions.old.regions }
-        requires names { NameRegions regions.old.regions self.old.maps }
-        requires few { AreFew regions.old.regions }
+        requires can { CanMap self.old regions.old.regions mem.old }
         requires want { AsksPages want }
         ensures maps { Maps (mapped (map_state self.old regions.old.regions mem.old) (kind_of chooser.now) (bytes_of tree.now (file_in want)) want) (map_state self.old regions.old.regions mem.old) (map_state self.new regions.new.regions mem.new) result }
         ensures refused { mapped (map_state self.old regions.old.regions mem.old) (kind_of chooser.now) (bytes_of tree.now (file_in want)) want ≡ None → result ≡ Err Enomem }
         ensures ids { regions.new.starts ≡ regions.old.starts }
-        ensures copies { AllHold regions.old.regions mem.old tree.now → IsKnown tree.now want → AllHold regions.new.regions mem.new tree.now }
-        ensures bytes { AllHold regions.old.regions mem.old tree.now → IsKnown tree.now want → IfOk result (λ addr. pages_at mem.new (page_at addr) (pages_of want) ≡ wanted_bytes tree.now want) }
+        ensures copies { AllHold regions.old.regions mem.old tree.now → IsKnown tree.now want → HoldWanted tree.now want regions.new.regions mem.new result }
     {
         let _pages = regions.pages();
         match part_for(regions, want) {

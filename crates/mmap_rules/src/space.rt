@@ -1,10 +1,10 @@
 //! A program's private space, but for its bytes.
-ghost use Rattle.std.specs.Prelude.{◌≡◌, ◌+◌, ◌*◌, ◌%◌, ◌^◌, ◌<◌, ◌≤◌, true, false, IfOk, length, slice_get, Some};
+ghost use Rattle.std.specs.Prelude.{◌≡◌, ◌+◌, ◌*◌, ◌%◌, ◌^◌, ◌<◌, ◌≤◌, true, false, IfOk, length, Some};
 ghost use Rattle.nommu_regions.specs.declared.region.Region.{Region};
 ghost use Rattle.nommu_regions.specs.declared.region.Source.TheVariants.{Own};
 ghost use Rattle.nommu_regions.specs.Ids.{Lives, region_of};
 ghost use Rattle.mmap_rules.specs.Space.{own_in, writable_in, may_use};
-ghost use Rattle.mmap_rules.specs.Owners.{owns, IsShaped, IsTable};
+ghost use Rattle.mmap_rules.specs.Owners.{owns, IsTable};
 ghost use Rattle.mmap_rules.specs.Held.{AreMappings, FitsBlock, block_mapping, held_block, next_brk, CanRelease, LoseUses, released};
 
 use crate::mapping::{Mapping, Range};
@@ -60,16 +60,14 @@ pub struct Space {
 }
 
 impl Model for Space {
-    ghost use Rattle.std.specs.Prelude.{◌≤◌, length, vec_capacity};
-    ghost use Rattle.std.specs.List.{sum_by};
-    ghost use Rattle.mmap_rules.specs.Owners.{IsTable};
-    ghost use Rattle.mmap_rules.specs.Held.{Held, AreMappings, places_of};
+    ghost use Rattle.std.specs.Prelude.{length, vec_capacity};
+    ghost use Rattle.mmap_rules.specs.Held.{Held, IsKept};
 
     ghost Value = { Held };
 
     ghost view = { λ s. record { maps = s.maps.items; brk = s.brk; brk_low = s.brk_low; brk_high = s.brk_high; pages = length s.owners } };
 
-    ghost invariant = { λ s. IsTable s.owners s.maps.items × AreMappings (length s.owners) s.maps.items × (sum_by places_of s.maps.items ≤ vec_capacity s.maps) };
+    ghost invariant = { λ s. IsKept s.owners s.maps.items (vec_capacity s.maps) };
 }
 
 /// The mapping of a block: all of its run but the header is own, and may be written.

@@ -1,11 +1,9 @@
 //! Mappings that go (Linux, munmap(2) and "No-MMU memory mapping support").
 
-ghost use Rattle.std.specs.Prelude.{◌≡◌, ◌+◌, ◌*◌, ◌%◌, ◌^◌, ◌<◌, ◌≤◌, [], ◌++◌, true, Some, length, slice_get, take, drop, position, vec_len, vec_capacity, IfSome, OnErr};
-ghost use Rattle.std.specs.List.{remove, sum_by};
-ghost use Rattle.mmap_rules.specs.declared.mapping.Mapping.{Mapping};
-ghost use Rattle.mmap_rules.specs.Owners.{IsTable};
-ghost use Rattle.mmap_rules.specs.Held.{AreMappings, places_of};
-ghost use Rattle.mmap_rules.specs.Mappings.{is_range, can_lose, part_of, left_of, hit};
+ghost use Rattle.std.specs.Prelude.{◌≡◌, ◌+◌, ◌*◌, ◌^◌, ◌<◌, ◌≤◌, [], ◌++◌, Some, length, slice_get, take, drop, position, vec_len, vec_capacity, IfSome, OnErr};
+ghost use Rattle.std.specs.List.{remove};
+ghost use Rattle.mmap_rules.specs.Held.{IsKept};
+ghost use Rattle.mmap_rules.specs.Mappings.{is_range, can_lose, part_of, left_of, hit, CanLose};
 ghost use Rattle.mmap_rules.specs.MapState.{freed, unmapped, Unmaps, OthersKeepIds, NameRegions};
 
 use crate::mapping::{Mapping, Range};
@@ -51,16 +49,12 @@ fn place_that_loses(maps: &[Mapping], addr: u32, pages: u32) -> Option<usize>
 
 /// Takes a mapping off the list, and its range off the table.
 fn take_mapping(maps: &mut Vec<Mapping>, owners: &mut Owners, place: usize) -> Mapping
-    requires table { IsTable owners.old maps.old.items }
-    requires mappings { AreMappings (length owners.old) maps.old.items }
-    requires room { sum_by places_of maps.old.items ≤ vec_capacity maps.old }
+    requires kept { IsKept owners.old maps.old.items (vec_capacity maps.old) }
     requires place { place < length maps.old.items }
     ensures mapping { slice_get maps.old.items place ≡ Some result }
     ensures maps { maps.new.items ≡ remove maps.old.items place }
+    ensures kept { IsKept owners.new maps.new.items (vec_capacity maps.new) }
     ensures pages { length owners.new ≡ length owners.old }
-    ensures table { IsTable owners.new maps.new.items }
-    ensures mappings { AreMappings (length owners.old) maps.new.items }
-    ensures places { sum_by places_of maps.new.items ≤ vec_capacity maps.new }
 {
     let mapping = maps.remove(place);
     owners.remove(&mapping.range);
@@ -103,19 +97,12 @@ fn cut_mapping(
     pages: u32,
 ) -> Mapping
     requires most { length owners.old ≤ 16384 }
-    requires table { IsTable owners.old maps.old.items }
-    requires mappings { AreMappings (length owners.old) maps.old.items }
-    requires room { sum_by places_of maps.old.items ≤ vec_capacity maps.old }
-    requires begins { addr % 4096 ≡ 0 }
-    requires some { 0 < pages }
-    requires place { place < length maps.old.items }
-    requires can { (m : Mapping) → slice_get maps.old.items place ≡ Some m → can_lose addr (4096 * pages) m ≡ true }
+    requires kept { IsKept owners.old maps.old.items (vec_capacity maps.old) }
+    requires can { CanLose maps.old.items place addr pages }
     ensures mapping { slice_get maps.old.items place ≡ Some result }
     ensures maps { maps.new.items ≡ take place maps.old.items ++ left_of result addr (4096 * pages) ++ drop (place + 1) maps.old.items }
+    ensures kept { IsKept owners.new maps.new.items (vec_capacity maps.new) }
     ensures pages { length owners.new ≡ length owners.old }
-    ensures table { IsTable owners.new maps.new.items }
-    ensures mappings { AreMappings (length owners.old) maps.new.items }
-    ensures places { sum_by places_of maps.new.items ≤ vec_capacity maps.new }
 {
     let mapping = maps.remove(place);
     let range = &mapping.range;

@@ -5,16 +5,17 @@ ghost use Rattle.mmap_rules.specs.Want.{pages_for, wanted, wanted_file, of_side,
 
 use call_log::{Errno, has_flag};
 
-/// The bits of MAP_SHARED, MAP_PRIVATE, MAP_FIXED and MAP_ANONYMOUS among the flags, and of PROT_WRITE.
-const SHARED: u32 = 0;
+const MAP_SHARED: u32 = 0x1;
 
-const PRIVATE: u32 = 1;
+const MAP_PRIVATE: u32 = 0x2;
 
-const FIXED: u32 = 4;
+const MAP_FIXED: u32 = 0x10;
 
-const ANONYMOUS: u32 = 5;
+/// The flag of mmap2 for pages that aren't a file's.
+pub const MAP_ANONYMOUS: u32 = 0x20;
 
-const WRITE: u32 = 1;
+/// The bit of its protection for pages that may be written.
+pub const PROT_WRITE: u32 = 0x2;
 
 /// The bytes of a page.
 const PAGE: u64 = phys_mem::PAGE as u64;
@@ -72,14 +73,14 @@ pub fn check_mmap2(
     if len == 0 {
         return Err(Errno::Einval);
     }
-    if has_flag(flags, FIXED) || addr != 0 {
+    if has_flag(flags, MAP_FIXED) || addr != 0 {
         return Err(Errno::Einval);
     }
-    if has_flag(flags, SHARED) == has_flag(flags, PRIVATE) {
+    if has_flag(flags, MAP_SHARED) == has_flag(flags, MAP_PRIVATE) {
         return Err(Errno::Einval);
     }
     let pages = pages_for(len);
-    if has_flag(flags, ANONYMOUS) {
+    if has_flag(flags, MAP_ANONYMOUS) {
         return Ok(Want::Anon { pages });
     }
     check_file(pages, prot, flags, first, file)
@@ -96,13 +97,13 @@ fn check_file(pages: u32, prot: u32, flags: u32, first: u32, file: FileSide) -> 
     }
     match file {
         FileSide::Closed => Err(Errno::Ebadf),
-        _ if has_flag(flags, SHARED) => Err(Errno::Enodev),
+        _ if has_flag(flags, MAP_SHARED) => Err(Errno::Enodev),
         FileSide::NotFile => Err(Errno::Enodev),
         FileSide::NoRead => Err(Errno::Eacces),
         FileSide::File { id, change } => Ok(Want::File {
             pages,
             first,
-            write: has_flag(prot, WRITE),
+            write: has_flag(prot, PROT_WRITE),
             id,
             change,
         }),

@@ -1,8 +1,11 @@
 -- The ids of regions. An id lasts as long as its region does, also where the region loses its first pages.
-use Rattle.std.specs.Prelude.{ℕ, ◌≡◌, ◌≢◌, ◌+◌, ◌<◌, Bool, true, false, ◌&&◌, not, nat_lt, if◌then◌else◌, List, length, get_or, slice_get, Option, Some, MatchOption}
+use Rattle.std.specs.Prelude.{ℕ, ◌≡◌, ◌≢◌, ◌+◌, ◌*◌, ◌<◌, Bool, true, false, ◌&&◌, not, nat_lt, if◌then◌else◌, List, length, get_or, replicate, slice_get, slice_set, Option, Some, IfSome, MatchOption}
 use Rattle.std.specs.List.{swap}
+use Rattle.byte_words.specs.Patches.{laid}
+use Rattle.page_runs.specs.Free.{without}
 use Rattle.nommu_regions.specs.declared.region.Region.{Region}
-use Rattle.nommu_regions.specs.Regions.{IsLive, before, behind, is_left}
+use Rattle.nommu_regions.specs.declared.region.Source.{Source}
+use Rattle.nommu_regions.specs.Regions.{AreFree, IsLive, before, behind, free_of, is_left}
 
 -- the regions, each at its first page, and for each id the page at which its region begins
 pub record Numbered : Type 0 where
@@ -30,6 +33,22 @@ pub record AreIds (s : Numbered) : Type 0 where
 abbrev pub OthersRemain : ℕ → (old new : Numbered) → Type 0
 OthersRemain id old new = (other : ℕ) → other ≢ id → Lives old other → region_of new other ≡ region_of old other
 
+-- ---- a region more
+
+-- pages with one use
+abbrev pub new_region : (first pages : ℕ) → Source → Region
+new_region first pages source = record { first = first; pages = pages; source = source; uses = 1 }
+
+-- a new region came to the page of an id, where its pages were free, and its bytes were cleared
+pub record IsFresh (id pages : ℕ) (source : Source) (old new : Numbered) (mem_old mem_new : List ℕ) : Type 0 where
+  pub free : AreFree old.regions (start_of old id) pages
+  pub front : free_of new.regions ≡ without (free_of old.regions) (start_of old id) pages
+  pub regions : new ≡ record old { regions = slice_set old.regions (start_of old id) (new_region (start_of old id) pages source) }
+  pub region : region_of new id ≡ Some (new_region (start_of old id) pages source)
+  pub live : Lives new id
+  pub others : OthersRemain id old new
+  pub memory : mem_new ≡ laid mem_old (4096 * start_of old id) (replicate (4096 * pages) 0)
+
 -- ---- pages that are cut out of a region
 
 -- pages are left before the cut and behind it
@@ -54,6 +73,18 @@ has_upper r from count = not (nat_lt r.first from) && is_left r (from + count)
 pub record IdsBehind (old new : Numbered) (r : Region) (id from count : ℕ) : Type 0 where
   pub stay : has_upper r from count ≡ false → new.starts ≡ old.starts
   pub change : (other : ℕ) → has_upper r from count ≡ true → start_of old other ≡ from + count → new.starts ≡ swap old.starts id other
+
+-- the region's id leads to its part, for which it may have changed places with another id
+pub record KeepsPart (old new : Numbered) (id from count : ℕ) : Type 0 where
+  pub part : (r : Region) → region_of old id ≡ Some r → region_of new id ≡ Some (kept_part r from count)
+  pub live : Lives new id
+  pub ids : (r : Region) → region_of old id ≡ Some r → IdsBehind old new r id from count
+
+-- the id that is given for the upper part is the one of its first page
+pub record GivesUpper (old new : Numbered) (id from count : ℕ) (upper : Option ℕ) : Type 0 where
+  pub part : (r : Region) → region_of old id ≡ Some r → UpperPart new r from count upper
+  pub start : IfSome upper (λ up. start_of old up ≡ from + count)
+  pub live : IfSome upper (λ up. Lives new up)
 
 -- ---- for the private table: which id begins at a page
 

@@ -1,14 +1,13 @@
 //! The regions of a memory.
 
-ghost use Rattle.std.specs.Prelude.{◌≡◌, ◌+◌, ◌-◌, ◌*◌, ◌^◌, ◌<◌, ◌≤◌, List, ℕ, Some, IfOk, IfSome, MatchOption, is_some, length, option_map, replicate, slice_set, true};
+ghost use Rattle.std.specs.Prelude.{◌≡◌, ◌+◌, ◌-◌, ◌*◌, ◌^◌, ◌<◌, ◌≤◌, List, ℕ, Some, IfOk, IfSome, MatchOption, is_some, length, option_map, replicate, true};
 ghost use Rattle.std.specs.List.{range_with_len, swap};
-ghost use Rattle.byte_words.specs.Patches.{laid};
 ghost use Rattle.page_runs.specs.declared.place.Kind.{Kind};
 ghost use Rattle.page_runs.specs.Choosers.{IsChooser, kind_of};
-ghost use Rattle.page_runs.specs.Free.{with_free, without};
+ghost use Rattle.page_runs.specs.Free.{with_free};
 ghost use Rattle.page_runs.specs.Place.{Gets, place, first_of};
-ghost use Rattle.nommu_regions.specs.Regions.{AreRegions, AreFree, IsLive, HaveFreeRuns, CanCut, copy_of, covers, free_behind, free_of, with_cut, with_uses, uses_of};
-ghost use Rattle.nommu_regions.specs.Ids.{AreIds, AreInverse, IdsBehind, Lives, OthersRemain, UpperPart, kept_part, region_of, start_of};
+ghost use Rattle.nommu_regions.specs.Regions.{AreRegions, IsLive, HaveFreeRuns, CanCut, copy_of, covers, free_behind, free_of, with_cut, with_uses, uses_of};
+ghost use Rattle.nommu_regions.specs.Ids.{AreIds, AreInverse, GivesUpper, IsFresh, KeepsPart, Lives, OthersRemain, region_of, start_of};
 
 use crate::region::{Region, Source};
 use page_runs::{Chooser, Run, Runs, first_fit};
@@ -124,13 +123,7 @@ impl Regions {
         requires memory { length mem.old ≡ 4096 * length self.old.regions }
         ensures placed { option_map (start_of self.old) result ≡ first_of (free_of self.old.regions).runs (place (kind_of chooser.now) (free_of self.old.regions).runs pages) }
         ensures gets { Gets (kind_of chooser.now) (free_of self.old.regions).runs pages (option_map (start_of self.old) result) }
-        ensures front { IfSome result (λ id. free_of self.new.regions ≡ without (free_of self.old.regions) (start_of self.old id) pages) }
-        ensures free { IfSome result (λ id. AreFree self.old.regions (start_of self.old id) pages) }
-        ensures live { IfSome result (λ id. Lives self.new id) }
-        ensures region { IfSome result (λ id. region_of self.new id ≡ Some (record { first = start_of self.old id; pages = pages; source = source; uses = 1 })) }
-        ensures regions { MatchOption result (self.new ≡ self.old) (λ id. self.new ≡ record self.old { regions = slice_set self.old.regions (start_of self.old id) (record { first = start_of self.old id; pages = pages; source = source; uses = 1 }) }) }
-        ensures others { IfSome result (λ id. OthersRemain id self.old self.new) }
-        ensures memory { MatchOption result (mem.new ≡ mem.old) (λ id. mem.new ≡ laid mem.old (4096 * start_of self.old id) (replicate (4096 * pages) 0)) }
+        ensures made { MatchOption result ((self.new ≡ self.old) × (mem.new ≡ mem.old)) (λ id. IsFresh id pages source self.old self.new mem.old mem.new) }
     {
         let first = self.free.take(pages, chooser)?;
         self.regions[first as usize] = Region {
@@ -189,13 +182,9 @@ impl Regions {
         requires { CanCut self.old.regions (start_of self.old id) from count }
         ensures regions { self.new.regions ≡ with_cut self.old.regions (start_of self.old id) from count }
         ensures free { free_of self.new.regions ≡ with_free (free_of self.old.regions) from count }
-        ensures part { (r : Region) → region_of self.old id ≡ Some r → region_of self.new id ≡ Some (kept_part r from count) }
-        ensures upper { (r : Region) → region_of self.old id ≡ Some r → UpperPart self.new r from count result }
-        ensures upper_id { IfSome result (λ upper. start_of self.old upper ≡ from + count) }
-        ensures ids { (r : Region) → region_of self.old id ≡ Some r → IdsBehind self.old self.new r id from count }
+        ensures part { KeepsPart self.old self.new id from count }
+        ensures upper { GivesUpper self.old self.new id from count result }
         ensures others { OthersRemain id self.old self.new }
-        ensures live { Lives self.new id }
-        ensures upper_lives { IfSome result (λ upper. Lives self.new upper) }
     {
         let first = self.starts[id as usize];
         let region = self.regions[first as usize];

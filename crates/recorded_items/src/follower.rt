@@ -14,10 +14,8 @@ use crate::copies::{copied_bytes, copied_entry};
 use crate::members::{Members, is_errno};
 use call_log::{Entry, Note, has_flag, numbers};
 use items_text::Item;
+use mmap_rules::MAP_ANONYMOUS;
 use std::alloc::{AllocError, Global};
-
-/// The bit of MAP_ANONYMOUS among its flags.
-const ANONYMOUS: u32 = 5;
 
 /// What some notes tell of a space.
 #[derive(Drop)]
@@ -105,5 +103,5 @@ fn item_with<'a>(
 fn maps_file(entry: &Entry) -> bool
     ensures { result ≡ maps_file (entry_value entry.now) }
 {
-    entry.call == numbers::MMAP2 && !is_errno(entry.reply) && !has_flag(entry.args[3], ANONYMOUS)
+    entry.call == numbers::MMAP2 && !is_errno(entry.reply) && !has_flag(entry.args[3], MAP_ANONYMOUS)
 }

@@ -10,17 +10,12 @@ ghost use Rattle.replay_check.specs.Solos.{item_of};
 use crate::memory::LoneMemory;
 use crate::ranges::{cut_range, place_of_cut, place_of_exact, take_range};
 use call_log::{Entry, has_flag};
-use mmap_rules::{Range, pages_for};
+use mmap_rules::{MAP_ANONYMOUS, PROT_WRITE, Range, pages_for};
 use phys_mem::{BASE, PAGE};
 use std::alloc::AllocError;
 
 /// The address behind the last page that memory can have.
 const END: u64 = 0x8400_0000;
-
-/// The bits of MAP_ANONYMOUS among the flags of mmap2, and of PROT_WRITE in its protection.
-const ANONYMOUS: u32 = 5;
-
-const WRITE: u32 = 1;
 
 /// The range of an mmap2 at its reply. None where it is empty, not on a page, or not in memory.
 fn new_range(entry: &Entry) -> Option<Range>
@@ -31,11 +26,11 @@ fn new_range(entry: &Entry) -> Option<Range>
     if size == 0 || from % PAGE != 0 || from < BASE || u64::from(from) + size > END {
         return None;
     }
-    let anonymous = has_flag(entry.args[3], ANONYMOUS);
+    let anonymous = has_flag(entry.args[3], MAP_ANONYMOUS);
     Some(Range {
         from,
         size: size as u32,
-        writes: anonymous || has_flag(entry.args[2], WRITE),
+        writes: anonymous || has_flag(entry.args[2], PROT_WRITE),
         anonymous,
     })
 }

@@ -138,7 +138,7 @@ module _ (k n : Kept) (regular : Regular k) (call : Call) (task : Task) (kind : 
     goes_by lent lends =
         let loaded = placed_by kind k regular f args env n.regions n.mem b.loaded b.is in
         changed_goes headers a comes k (space_left (running k call e.value f args env b.is.page index n.mem) lent e.value.space h) call.pid
-        (exec_carried headers a k regular e h call runs is f args env b.is.page index n.mem loaded b.is.header listed kind same (frame_fits (flat_original f) args env) lent b.is.fits b.is.placed room
+        (exec_carried headers a k regular e h call runs is f args env b.is.page index n.mem loaded b.is.stands.header listed kind same (frame_fits (flat_original f) args env) lent b.is.fits b.is.placed room
         (ap (entry_borrows k.procs) (own_pid k.procs call.pid e runs.lives) ∙ lends))
         (lives_behind k regular e h call runs f args env b.is.page index n.mem lent)
 

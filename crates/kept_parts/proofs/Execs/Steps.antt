@@ -106,9 +106,9 @@ module _ (k n : Kept) (regular : Regular k) (call : Call) (task : Task) (kind : 
       let counted = counts_behind k call f page index in
       subst IsRegular (sym (running_is e lives)) (
         regular_recorded _ (regular_switched k regular call.pid e lives (state_ready k.procs call.pid e lives ready) (block_region page pages) (held_begin (length k.regions) (page_loading f page args env))
-            (page_loading f page args env) n.mem (notes_behind k call f page index) (fits k regular f args env page b.is.free) b.is.len counted)
+            (page_loading f page args env) n.mem (notes_behind k call f page index) (fits k regular f args env page b.is.free) b.is.stands.len counted)
             (recorded_behind k call e.value.space (page_loading f page args env)),
-        copies_switched k regular copies e.value page pages b.is.free (page_loading f page args env) refl end n.mem b.is.len b.is.others (notes_behind k call f page index) counted (λ unstrayed. unstrayed),
+        copies_switched k regular copies e.value page pages b.is.free (page_loading f page args env) refl end n.mem b.is.stands.len b.is.stands.others (notes_behind k call f page index) counted (λ unstrayed. unstrayed),
       )
 
   pub there_by : Lives k.procs call.pid → HasSpace n.spaces task.space

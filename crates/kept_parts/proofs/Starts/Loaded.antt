@@ -178,4 +178,4 @@ pages_loaded kind f args env rs mem now after loaded is = ap (length {A = Region
 -- what loading leaves
 pub placed_by : (kind : Kind) (k : Kept) (regular : Regular k) (f : Values) (args env : List (List ℕ)) (regions : List Region) (mem : List ℕ) (loaded : Loaded)
     → (is : IsLoaded kind f args env k.regions k.mem regions mem loaded) → Placed k regular f args env is.page mem
-placed_by kind k regular f args env regions mem loaded is = record { free = is.free; own = is.own; others = is.others; len = is.len }
+placed_by kind k regular f args env regions mem loaded is = record { free = is.free; own = is.stands.own; others = is.stands.others; len = is.stands.len }

@@ -80,7 +80,7 @@ pub lays_by : (old k n : Kept) → k ≡ old → Regular k → (kind : Kind) (in
     (headers : List (List ℕ)) → slice_get headers index ≡ Some (header_of f) → LaysOn headers old n
 lays_by old k n view regular kind index f args b headers listed =
     subst (λ (x : Kept). LaysOn headers x n) view
-    (λ a before. lays headers a k regular index f args b.is.page n.mem (placed_by kind k regular f args [] n.regions n.mem b.loaded b.is) b.is.header listed before
+    (λ a before. lays headers a k regular index f args b.is.page n.mem (placed_by kind k regular f args [] n.regions n.mem b.loaded b.is) b.is.stands.header listed before
     ∙ ap (λ (x : Kept). first_memory headers (world_of a x)) (sym b.new))
 
 pub others_by : (old k n : Kept) → k ≡ old → (kind : Kind) (index : ℕ) (f : Values) (args : List (List ℕ)) → Begun k n kind index f args → LeavesOtherBytes old n
@@ -90,4 +90,4 @@ others_by old k n view kind index f args b l noted at outside =
     let base : l.base ≡ page_address b.is.page = cc in
     let pages : l.pages ≡ block_pages (flat_original f) = cc in
     let free : in_block (page_loading f b.is.page args []) at ≡ false = grind (arith, nat_tests, base, pages, outside) in
-    b.is.others at free ∙ ap (λ (x : Kept). physical x.mem at) view
+    b.is.stands.others at free ∙ ap (λ (x : Kept). physical x.mem at) view

@@ -59,11 +59,10 @@ returns-clause-regs c =
     let regs : ℕ → ℕ → Regs = λ entry sp. record { pc = c.args.block + entry; x = slice_set (replicate 32 0) 2 sp } in
     c.start_regs.ensures ∙ ap (λ e. regs e c.frame_start-sp.result) c.entry.ensures.value ∙ ap (regs f.entry) sp
 
-pub returns-clause-own : goal.returns-clause-own
-returns-clause-own c = own_there _ _ _ _ _ _ _ (written c)
-
-pub returns-clause-header : goal.returns-clause-header
-returns-clause-header c = header_there _ _ _ _ _ _ _ (written c)
-
-pub returns-clause-others : goal.returns-clause-others
-returns-clause-others c = others_kept _ _ _ _ _ _ _ (written c)
+pub returns-clause-stands : goal.returns-clause-stands
+returns-clause-stands c = record {
+  own = own_there _ _ _ _ _ _ _ (written c);
+  header = header_there _ _ _ _ _ _ _ (written c);
+  others = others_kept _ _ _ _ _ _ _ (written c);
+  len = c.write_frame.ensures.length ∙ c.write_image.ensures.length;
+}

@@ -43,15 +43,17 @@ use Rattle.kept_parts.proofs.kept.KeptParts.map.Given.{Over}
 use Rattle.kept_parts.proofs.kept.KeptParts.map.Goals as goal
 
 pub map_in-mapped-requires-clause-fits : goal.map_in-mapped-requires-clause-fits
-map_in-mapped-requires-clause-fits g c =
+map_in-mapped-requires-clause-fits g c = λ h is.
     let k = kept_of c.self.inside in
     let number = c.get.result.now.space in
     let there = ap (λ (ss : List (Option Held)). slice_get ss number) c.deref_mut.ensures.value in record {
-      pages = λ h is. c.self.invariant.0.0.pages number h (sym there ∙ is);
+      lies = record {
+        pages = c.self.invariant.0.0.pages number h (sym there ∙ is);
+        names = name_regions k c.self.invariant.0.0 number h (sym there ∙ is);
+        few = few_uses k c.self.invariant.0.1
+            (room_counts c.self.inside.log.notes (length c.args.call.sent.items) (room_inside k c.args.self.now c.self.view_is c.args.call.sent.items c.requires.room));
+      };
       memory = c.self.invariant.0.0.memory;
-      names = λ h is. name_regions k c.self.invariant.0.0 number h (sym there ∙ is);
-      few = few_uses k c.self.invariant.0.1
-          (room_counts c.self.inside.log.notes (length c.args.call.sent.items) (room_inside k c.args.self.now c.self.view_is c.args.call.sent.items c.requires.room));
     }
 
 -- ---- out of memory

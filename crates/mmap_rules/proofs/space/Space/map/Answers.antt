@@ -18,8 +18,10 @@ returns-in-Some g c =
       maps = maps;
       refused = λ none. (let live = c.in-Some.ensures.live in absurd (copy_fits (map_state c.args.self.now c.args.regions.now.regions c.args.mem.now) (part_at c.args.regions.now c.in-Some.part).first (part_at c.args.regions.now c.in-Some.part).pages (slice_get c.args.regions.now.regions (part_at c.args.regions.now c.in-Some.part).copy) live.region live.there (sym chosen ∙ none)));
       ids = c.map_part.ensures.ids;
-      copies = λ holds known. all_hold (map_state c.args.self.now c.args.regions.now.regions c.args.mem.now) (map_state c.map_part.new.self c.map_part.new.regions.regions c.args.mem.now) (kind_of c.args.chooser.now) c.args.tree.now c.args.want c.map_part.result c.requires.want c.pages-pages.ensures.regions c.requires.memory holds maps;
-      bytes = λ holds known. has_wanted (map_state c.args.self.now c.args.regions.now.regions c.args.mem.now) (map_state c.map_part.new.self c.map_part.new.regions.regions c.args.mem.now) (kind_of c.args.chooser.now) c.args.tree.now c.args.want c.map_part.result c.requires.want c.pages-pages.ensures.regions c.requires.memory holds known maps;
+      copies = λ holds known. record {
+        copies = all_hold (map_state c.args.self.now c.args.regions.now.regions c.args.mem.now) (map_state c.map_part.new.self c.map_part.new.regions.regions c.args.mem.now) (kind_of c.args.chooser.now) c.args.tree.now c.args.want c.map_part.result c.requires.want c.pages-pages.ensures.regions c.requires.can.memory holds maps;
+        bytes = has_wanted (map_state c.args.self.now c.args.regions.now.regions c.args.mem.now) (map_state c.map_part.new.self c.map_part.new.regions.regions c.args.mem.now) (kind_of c.args.chooser.now) c.args.tree.now c.args.want c.map_part.result c.requires.want c.pages-pages.ensures.regions c.requires.can.memory holds known maps;
+      };
     }
 
 pub returns-in-None : goal.returns-in-None
@@ -32,6 +34,8 @@ returns-in-None g c =
       maps = maps;
       refused = λ none. c.map_fresh.ensures.refused (rw c.new_run.ensures.run (none_fits _ _ _ _ _ _ _ (sym chosen ∙ none)));
       ids = c.map_fresh.ensures.ids;
-      copies = λ holds known. all_hold (map_state c.args.self.now c.args.regions.now.regions c.args.mem.now) (map_state c.map_fresh.new.self c.map_fresh.new.regions.regions c.map_fresh.new.mem) (kind_of c.args.chooser.now) c.args.tree.now c.args.want c.map_fresh.result c.requires.want c.pages-pages.ensures.regions c.requires.memory holds maps;
-      bytes = λ holds known. has_wanted (map_state c.args.self.now c.args.regions.now.regions c.args.mem.now) (map_state c.map_fresh.new.self c.map_fresh.new.regions.regions c.map_fresh.new.mem) (kind_of c.args.chooser.now) c.args.tree.now c.args.want c.map_fresh.result c.requires.want c.pages-pages.ensures.regions c.requires.memory holds known maps;
+      copies = λ holds known. record {
+        copies = all_hold (map_state c.args.self.now c.args.regions.now.regions c.args.mem.now) (map_state c.map_fresh.new.self c.map_fresh.new.regions.regions c.map_fresh.new.mem) (kind_of c.args.chooser.now) c.args.tree.now c.args.want c.map_fresh.result c.requires.want c.pages-pages.ensures.regions c.requires.can.memory holds maps;
+        bytes = has_wanted (map_state c.args.self.now c.args.regions.now.regions c.args.mem.now) (map_state c.map_fresh.new.self c.map_fresh.new.regions.regions c.map_fresh.new.mem) (kind_of c.args.chooser.now) c.args.tree.now c.args.want c.map_fresh.result c.requires.want c.pages-pages.ensures.regions c.requires.can.memory holds known maps;
+      };
     }

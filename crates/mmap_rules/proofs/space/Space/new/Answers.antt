@@ -33,4 +33,4 @@ invariant_of-result c =
     let room = c.room.invariant.3 in
     let more = c.push.ensures.capacity in
     let fits : sum_by places_of (m ∷ []) ≤ vec_capacity c.push.new.self = omega (arith, places, room, more) in
-    rw maps (table, mapped_one (length c.add.new.self) m mapping, fits)
+    rw maps (record { table = table; mappings = mapped_one (length c.add.new.self) m mapping; places = fits })

@@ -25,8 +25,7 @@ at-id-requires c =
 
 pub invariant_of-self : goal.invariant_of-self
 invariant_of-self c =
-    let e = c.take_mapping-gone.ensures in
-    (e.table, rw e.pages e.mappings, e.places)
+    c.take_mapping-gone.ensures.kept
 
 pub returns-in-Some-clause-names : goal.returns-in-Some-clause-names
 returns-in-Some-clause-names c =
@@ -54,8 +53,16 @@ returns-in_default-place_that_loses-clause-unmaps c =
 
 pub cut_mapping-cut-requires-clause-can : goal.cut_mapping-cut-requires-clause-can
 cut_mapping-cut-requires-clause-can c =
+    let maps = c.self.inside.maps.items in
+    let n = c.pages_for-pages.result in
+    let k = c.in-Some-place_that_loses.place in
     let first = rw c.deref-2.ensures.value at c.in-Some-place_that_loses.ensures in
-    (first_passes (can_lose c.args.addr (4096 * c.pages_for-pages.result)) c.self.inside.maps.items c.in-Some-place_that_loses.place (sym first)).passes
+    record {
+      begins = c.if-addr-ne0.false;
+      some = some_pages c.args.len n c.pages_for-pages.ensures c.if-len-eq0.false;
+      there = (first_passes (can_lose c.args.addr (4096 * n)) maps k (sym first)).within;
+      can = (first_passes (can_lose c.args.addr (4096 * n)) maps k (sym first)).passes;
+    }
 
 pub overflow_sub-addr : goal.overflow_sub-addr
 overflow_sub-addr c =
@@ -67,7 +74,7 @@ overflow_sub-addr c =
     let there = c.cut_mapping-cut.ensures.mapping in
     let can = (first_passes (can_lose c.args.addr (4096 * n)) maps k (sym first)).passes m there in
     let pages = length c.self.inside.owners in
-    let is = cuts pages maps k m c.args.addr n c.self.invariant.1 there c.if-addr-ne0.false (some_pages c.args.len n c.pages_for-pages.ensures c.if-len-eq0.false) can in
+    let is = cuts pages maps k m c.args.addr n c.self.invariant.mappings there c.if-addr-ne0.false (some_pages c.args.len n c.pages_for-pages.ensures c.if-len-eq0.false) can in
     let s = stand pages m c.args.addr (4096 * n) is in
     omega (arith, s.above, s.before)
 
@@ -87,14 +94,13 @@ cut-requires c =
     let there = c.cut_mapping-cut.ensures.mapping in
     let can = (first_passes (can_lose c.args.addr (4096 * n)) maps k (sym first)).passes m there in
     let pages = length c.self.inside.owners in
-    let is = cuts pages maps k m c.args.addr n c.self.invariant.1 there c.if-addr-ne0.false (some_pages c.args.len n c.pages_for-pages.ensures c.if-len-eq0.false) can in
+    let is = cuts pages maps k m c.args.addr n c.self.invariant.mappings there c.if-addr-ne0.false (some_pages c.args.len n c.pages_for-pages.ensures c.if-len-eq0.false) can in
     let names = subst (λ (x : Held). NameRegions c.args.regions.now.regions x.maps) (sym c.self.view_is) c.requires.names in
     rw c.at-id-2.ensures.start (can_cut c.args.regions.now.regions maps pages k m c.args.addr n c.pages-memory.ensures.regions names there is (none_passes (is_range c.args.addr (4096 * n)) maps k m (sym none) there))
 
 pub invariant_of-self-2 : goal.invariant_of-self-2
 invariant_of-self-2 c =
-    let e = c.cut_mapping-cut.ensures in
-    (e.table, rw e.pages e.mappings, e.places)
+    c.cut_mapping-cut.ensures.kept
 
 pub returns-clause-names : goal.returns-clause-names
 returns-clause-names c =
@@ -107,7 +113,7 @@ returns-clause-names c =
     let first = rw c.deref-2.ensures.value at c.in-Some-place_that_loses.ensures in
     let can = (first_passes (can_lose c.args.addr (4096 * n)) maps k (sym first)).passes m e.mapping in
     let pages = length c.self.inside.owners in
-    let is = cuts pages maps k m c.args.addr n c.self.invariant.1 e.mapping c.if-addr-ne0.false (some_pages c.args.len n c.pages_for-pages.ensures c.if-len-eq0.false) can in
+    let is = cuts pages maps k m c.args.addr n c.self.invariant.mappings e.mapping c.if-addr-ne0.false (some_pages c.args.len n c.pages_for-pages.ensures c.if-len-eq0.false) can in
     let names = subst (λ (x : Held). NameRegions rs x.maps) (sym c.self.view_is) c.requires.names in
     rw (e.maps, cut_at c.args.regions.now c.cut.new.self.regions c.at-id-2.result c.cut_mapping-cut.result.first _ _ c.at-id-2.ensures.start c.cut.ensures.regions) (names_cut rs maps pages k m c.args.addr n c.pages-memory.ensures.regions names e.mapping is)
 

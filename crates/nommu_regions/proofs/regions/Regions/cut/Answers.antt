@@ -27,7 +27,7 @@ index-upper-requires c =
     omega (arith, inside, cut.last, c.self.invariant.1.ids_len, c.self.inside.ids.ok.0, c.if-end-region.false)
 
 pub returns-then-end-region-clause-part : goal.returns-then-end-region-clause-part
-returns-then-end-region-clause-part c r named =
+returns-then-end-region-clause-part c =
     let at : At c.self.inside.regions.items c.self.inside.starts.items c.args.self.now c.args.id c.index-first.result.now c.index-region.result.now = read_at c.self.inside.regions.items c.self.inside.ids.items c.self.inside.starts.items c.args.self.now c.args.id c.index-first.result.now _ _ c.index-region.result.now c.self.view_is c.self.invariant.1 (lives_cut c.self.inside.regions.items c.self.inside.starts.items c.args.self.now c.args.id c.args.from c.args.count c.requires) c.self.inside.starts.ok.0 c.index-first.ensures c.self.inside.regions.ok.0 c.index-region.ensures in
     let cut = cut_at c.self.inside.regions.items c.self.inside.starts.items c.args.self.now c.args.id c.index-first.result.now c.index-region.result.now c.args.from c.args.count at c.requires in
     let begins : c.index-region.result.now.first ≡ c.index-first.result.now = c.self.invariant.0.0.begins c.index-first.result.now c.index-region.result.now at.there at.live in
@@ -35,12 +35,20 @@ returns-then-end-region-clause-part c r named =
     let whole : (with_items c.self.inside.regions c.cut_pages.new.regions).items ≡ c.cut_pages.new.regions = with_items_is c.self.inside.regions c.cut_pages.new.regions (c.cut_pages.ensures.len ∙ (ap length c.deref_mut.ensures.value ∙ sym c.self.inside.regions.ok.0)) in
     let is : (with_items c.self.inside.regions c.cut_pages.new.regions).items ≡ with_cut c.self.inside.regions.items c.index-first.result.now c.args.from c.args.count = whole ∙ (c.cut_pages.ensures.regions ∙ ap (λ (l : List Region). with_cut l c.index-first.result.now c.args.from c.args.count) c.deref_mut.ensures.value) in
     let len : length (with_items c.self.inside.regions c.cut_pages.new.regions).items ≡ length c.self.inside.regions.items = ap length whole ∙ (c.cut_pages.ensures.len ∙ ap length c.deref_mut.ensures.value) in
-    part_lower c.self.inside.regions.items _ c.self.inside.starts.items c.args.self.now c.args.id c.index-first.result.now c.index-region.result.now c.args.from c.args.count at cut is len begins (omega (arith, c.if-end-region.true, cut.less, cut.first, begins)) r named
+    record {
+      part = λ r named. part_lower c.self.inside.regions.items _ c.self.inside.starts.items c.args.self.now c.args.id c.index-first.result.now c.index-region.result.now c.args.from c.args.count at cut is len begins (omega (arith, c.if-end-region.true, cut.less, cut.first, begins)) r named;
+      live = live_kept _ c.args.id c.index-region.result.now c.args.from c.args.count cut.one (part_lower c.self.inside.regions.items _ c.self.inside.starts.items c.args.self.now c.args.id c.index-first.result.now c.index-region.result.now c.args.from c.args.count at cut is len begins (omega (arith, c.if-end-region.true, cut.less, cut.first, begins)) c.index-region.result.now (region_at c.self.inside.regions.items c.self.inside.starts.items c.args.self.now c.args.id c.index-first.result.now c.index-region.result.now at));
+      ids = λ r named. ids_stay c.self.inside.regions.items _ c.self.inside.starts.items c.args.self.now c.args.id c.index-first.result.now c.index-region.result.now c.args.from c.args.count at (grind (arith, nat_tests, c.if-end-region.true)) r named;
+    }
 
 pub returns-then-end-region-clause-upper : goal.returns-then-end-region-clause-upper
-returns-then-end-region-clause-upper c r named =
+returns-then-end-region-clause-upper c =
     let at : At c.self.inside.regions.items c.self.inside.starts.items c.args.self.now c.args.id c.index-first.result.now c.index-region.result.now = read_at c.self.inside.regions.items c.self.inside.ids.items c.self.inside.starts.items c.args.self.now c.args.id c.index-first.result.now _ _ c.index-region.result.now c.self.view_is c.self.invariant.1 (lives_cut c.self.inside.regions.items c.self.inside.starts.items c.args.self.now c.args.id c.args.from c.args.count c.requires) c.self.inside.starts.ok.0 c.index-first.ensures c.self.inside.regions.ok.0 c.index-region.ensures in
-    none_upper c.self.inside.regions.items c.self.inside.starts.items c.args.self.now c.args.id c.index-first.result.now c.index-region.result.now c.args.from c.args.count at c.if-end-region.true r named
+    record {
+      part = λ r named. none_upper c.self.inside.regions.items c.self.inside.starts.items c.args.self.now c.args.id c.index-first.result.now c.index-region.result.now c.args.from c.args.count at c.if-end-region.true r named;
+      start = tt;
+      live = tt;
+    }
 
 pub returns-then-end-region-clause-others : goal.returns-then-end-region-clause-others
 returns-then-end-region-clause-others c =
@@ -52,12 +60,6 @@ returns-then-end-region-clause-others c =
     let is : (with_items c.self.inside.regions c.cut_pages.new.regions).items ≡ with_cut c.self.inside.regions.items c.index-first.result.now c.args.from c.args.count = whole ∙ (c.cut_pages.ensures.regions ∙ ap (λ (l : List Region). with_cut l c.index-first.result.now c.args.from c.args.count) c.deref_mut.ensures.value) in
     let len : length (with_items c.self.inside.regions c.cut_pages.new.regions).items ≡ length c.self.inside.regions.items = ap length whole ∙ (c.cut_pages.ensures.len ∙ ap length c.deref_mut.ensures.value) in
     others_cut c.self.inside.regions.items _ c.self.inside.ids.items c.self.inside.starts.items c.args.self.now c.args.id c.index-first.result.now c.index-region.result.now c.args.from c.args.count at cut c.self.invariant.1 c.self.invariant.0.0 is len
-
-pub returns-then-end-region-clause-live : goal.returns-then-end-region-clause-live
-returns-then-end-region-clause-live c =
-    let at : At c.self.inside.regions.items c.self.inside.starts.items c.args.self.now c.args.id c.index-first.result.now c.index-region.result.now = read_at c.self.inside.regions.items c.self.inside.ids.items c.self.inside.starts.items c.args.self.now c.args.id c.index-first.result.now _ _ c.index-region.result.now c.self.view_is c.self.invariant.1 (lives_cut c.self.inside.regions.items c.self.inside.starts.items c.args.self.now c.args.id c.args.from c.args.count c.requires) c.self.inside.starts.ok.0 c.index-first.ensures c.self.inside.regions.ok.0 c.index-region.ensures in
-    let cut = cut_at c.self.inside.regions.items c.self.inside.starts.items c.args.self.now c.args.id c.index-first.result.now c.index-region.result.now c.args.from c.args.count at c.requires in
-    live_kept _ c.args.id c.index-region.result.now c.args.from c.args.count cut.one (returns-then-end-region-clause-part c c.index-region.result.now (region_at c.self.inside.regions.items c.self.inside.starts.items c.args.self.now c.args.id c.index-first.result.now c.index-region.result.now at))
 
 pub returns-then-first-from-clause-regions : goal.returns-then-first-from-clause-regions
 returns-then-first-from-clause-regions c =
@@ -71,7 +73,7 @@ returns-then-first-from-clause-regions c =
     rw (at.start, ← c.self.view_is) is
 
 pub returns-then-first-from-clause-part : goal.returns-then-first-from-clause-part
-returns-then-first-from-clause-part c r named =
+returns-then-first-from-clause-part c =
     let at : At c.self.inside.regions.items c.self.inside.starts.items c.args.self.now c.args.id c.index-first.result.now c.index-region.result.now = read_at c.self.inside.regions.items c.self.inside.ids.items c.self.inside.starts.items c.args.self.now c.args.id c.index-first.result.now _ _ c.index-region.result.now c.self.view_is c.self.invariant.1 (lives_cut c.self.inside.regions.items c.self.inside.starts.items c.args.self.now c.args.id c.args.from c.args.count c.requires) c.self.inside.starts.ok.0 c.index-first.ensures c.self.inside.regions.ok.0 c.index-region.ensures in
     let cut = cut_at c.self.inside.regions.items c.self.inside.starts.items c.args.self.now c.args.id c.index-first.result.now c.index-region.result.now c.args.from c.args.count at c.requires in
     let begins : c.index-region.result.now.first ≡ c.index-first.result.now = c.self.invariant.0.0.begins c.index-first.result.now c.index-region.result.now at.there at.live in
@@ -79,10 +81,14 @@ returns-then-first-from-clause-part c r named =
     let whole : (with_items c.self.inside.regions c.cut_pages.new.regions).items ≡ c.cut_pages.new.regions = with_items_is c.self.inside.regions c.cut_pages.new.regions (c.cut_pages.ensures.len ∙ (ap length c.deref_mut.ensures.value ∙ sym c.self.inside.regions.ok.0)) in
     let is : (with_items c.self.inside.regions c.cut_pages.new.regions).items ≡ with_cut c.self.inside.regions.items c.index-first.result.now c.args.from c.args.count = whole ∙ (c.cut_pages.ensures.regions ∙ ap (λ (l : List Region). with_cut l c.index-first.result.now c.args.from c.args.count) c.deref_mut.ensures.value) in
     let len : length (with_items c.self.inside.regions c.cut_pages.new.regions).items ≡ length c.self.inside.regions.items = ap length whole ∙ (c.cut_pages.ensures.len ∙ ap length c.deref_mut.ensures.value) in
-    part_lower c.self.inside.regions.items _ c.self.inside.starts.items c.args.self.now c.args.id c.index-first.result.now c.index-region.result.now c.args.from c.args.count at cut is len begins c.if-first-from.true r named
+    record {
+      part = λ r named. part_lower c.self.inside.regions.items _ c.self.inside.starts.items c.args.self.now c.args.id c.index-first.result.now c.index-region.result.now c.args.from c.args.count at cut is len begins c.if-first-from.true r named;
+      live = live_kept _ c.args.id c.index-region.result.now c.args.from c.args.count cut.one (part_lower c.self.inside.regions.items _ c.self.inside.starts.items c.args.self.now c.args.id c.index-first.result.now c.index-region.result.now c.args.from c.args.count at cut is len begins c.if-first-from.true c.index-region.result.now (region_at c.self.inside.regions.items c.self.inside.starts.items c.args.self.now c.args.id c.index-first.result.now c.index-region.result.now at));
+      ids = λ r named. ids_stay c.self.inside.regions.items _ c.self.inside.starts.items c.args.self.now c.args.id c.index-first.result.now c.index-region.result.now c.args.from c.args.count at (grind (arith, nat_tests, c.if-first-from.true, begins)) r named;
+    }
 
 pub returns-then-first-from-clause-upper : goal.returns-then-first-from-clause-upper
-returns-then-first-from-clause-upper c r named =
+returns-then-first-from-clause-upper c =
     let at : At c.self.inside.regions.items c.self.inside.starts.items c.args.self.now c.args.id c.index-first.result.now c.index-region.result.now = read_at c.self.inside.regions.items c.self.inside.ids.items c.self.inside.starts.items c.args.self.now c.args.id c.index-first.result.now _ _ c.index-region.result.now c.self.view_is c.self.invariant.1 (lives_cut c.self.inside.regions.items c.self.inside.starts.items c.args.self.now c.args.id c.args.from c.args.count c.requires) c.self.inside.starts.ok.0 c.index-first.ensures c.self.inside.regions.ok.0 c.index-region.ensures in
     let cut = cut_at c.self.inside.regions.items c.self.inside.starts.items c.args.self.now c.args.id c.index-first.result.now c.index-region.result.now c.args.from c.args.count at c.requires in
     let begins : c.index-region.result.now.first ≡ c.index-first.result.now = c.self.invariant.0.0.begins c.index-first.result.now c.index-region.result.now at.there at.live in
@@ -92,7 +98,11 @@ returns-then-first-from-clause-upper c r named =
     let len : length (with_items c.self.inside.regions c.cut_pages.new.regions).items ≡ length c.self.inside.regions.items = ap length whole ∙ (c.cut_pages.ensures.len ∙ ap length c.deref_mut.ensures.value) in
     let more : c.args.from + c.args.count < c.index-region.result.now.first + c.index-region.result.now.pages = omega (arith, cut.last, c.if-end-region.false) in
     let read : c.index-upper.result.now ≡ get_or c.self.inside.ids.items (c.args.from + c.args.count) (length c.self.inside.regions.items) = get_or_read_under c.self.inside.ids.items (c.args.from + c.args.count) _ c.index-upper.result.now (length c.self.inside.regions.items) c.index-upper.ensures (omega (arith, more, inside, c.self.invariant.1.ids_len, c.self.inside.ids.ok.0)) c.self.inside.ids.ok.0 in
-    some_upper c.self.inside.regions.items _ c.self.inside.ids.items c.self.inside.starts.items c.args.self.now c.args.id c.index-first.result.now c.index-region.result.now c.args.from c.args.count c.index-upper.result.now at cut c.self.invariant.1 is len begins c.if-first-from.true inside more read r named
+    record {
+      part = λ r named. some_upper c.self.inside.regions.items _ c.self.inside.ids.items c.self.inside.starts.items c.args.self.now c.args.id c.index-first.result.now c.index-region.result.now c.args.from c.args.count c.index-upper.result.now at cut c.self.invariant.1 is len begins c.if-first-from.true inside more read r named;
+      start = start_at c.self.inside.regions.items c.self.inside.ids.items c.self.inside.starts.items c.args.self.now (c.args.from + c.args.count) c.index-upper.result.now _ c.self.view_is c.self.invariant.1 (omega (arith, more, inside)) c.self.inside.ids.ok.0 c.index-upper.ensures;
+      live = live_upper _ c.index-region.result.now c.args.from c.args.count c.index-upper.result.now cut.one (some_upper c.self.inside.regions.items _ c.self.inside.ids.items c.self.inside.starts.items c.args.self.now c.args.id c.index-first.result.now c.index-region.result.now c.args.from c.args.count c.index-upper.result.now at cut c.self.invariant.1 is len begins c.if-first-from.true inside more read c.index-region.result.now (region_at c.self.inside.regions.items c.self.inside.starts.items c.args.self.now c.args.id c.index-first.result.now c.index-region.result.now at));
+    }
 
 pub returns-then-first-from-clause-others : goal.returns-then-first-from-clause-others
 returns-then-first-from-clause-others c =
@@ -104,18 +114,6 @@ returns-then-first-from-clause-others c =
     let is : (with_items c.self.inside.regions c.cut_pages.new.regions).items ≡ with_cut c.self.inside.regions.items c.index-first.result.now c.args.from c.args.count = whole ∙ (c.cut_pages.ensures.regions ∙ ap (λ (l : List Region). with_cut l c.index-first.result.now c.args.from c.args.count) c.deref_mut.ensures.value) in
     let len : length (with_items c.self.inside.regions c.cut_pages.new.regions).items ≡ length c.self.inside.regions.items = ap length whole ∙ (c.cut_pages.ensures.len ∙ ap length c.deref_mut.ensures.value) in
     others_cut c.self.inside.regions.items _ c.self.inside.ids.items c.self.inside.starts.items c.args.self.now c.args.id c.index-first.result.now c.index-region.result.now c.args.from c.args.count at cut c.self.invariant.1 c.self.invariant.0.0 is len
-
-pub returns-then-first-from-clause-live : goal.returns-then-first-from-clause-live
-returns-then-first-from-clause-live c =
-    let at : At c.self.inside.regions.items c.self.inside.starts.items c.args.self.now c.args.id c.index-first.result.now c.index-region.result.now = read_at c.self.inside.regions.items c.self.inside.ids.items c.self.inside.starts.items c.args.self.now c.args.id c.index-first.result.now _ _ c.index-region.result.now c.self.view_is c.self.invariant.1 (lives_cut c.self.inside.regions.items c.self.inside.starts.items c.args.self.now c.args.id c.args.from c.args.count c.requires) c.self.inside.starts.ok.0 c.index-first.ensures c.self.inside.regions.ok.0 c.index-region.ensures in
-    let cut = cut_at c.self.inside.regions.items c.self.inside.starts.items c.args.self.now c.args.id c.index-first.result.now c.index-region.result.now c.args.from c.args.count at c.requires in
-    live_kept _ c.args.id c.index-region.result.now c.args.from c.args.count cut.one (returns-then-first-from-clause-part c c.index-region.result.now (region_at c.self.inside.regions.items c.self.inside.starts.items c.args.self.now c.args.id c.index-first.result.now c.index-region.result.now at))
-
-pub returns-then-first-from-clause-upper_lives : goal.returns-then-first-from-clause-upper_lives
-returns-then-first-from-clause-upper_lives c =
-    let at : At c.self.inside.regions.items c.self.inside.starts.items c.args.self.now c.args.id c.index-first.result.now c.index-region.result.now = read_at c.self.inside.regions.items c.self.inside.ids.items c.self.inside.starts.items c.args.self.now c.args.id c.index-first.result.now _ _ c.index-region.result.now c.self.view_is c.self.invariant.1 (lives_cut c.self.inside.regions.items c.self.inside.starts.items c.args.self.now c.args.id c.args.from c.args.count c.requires) c.self.inside.starts.ok.0 c.index-first.ensures c.self.inside.regions.ok.0 c.index-region.ensures in
-    let cut = cut_at c.self.inside.regions.items c.self.inside.starts.items c.args.self.now c.args.id c.index-first.result.now c.index-region.result.now c.args.from c.args.count at c.requires in
-    live_upper _ c.index-region.result.now c.args.from c.args.count c.index-upper.result.now cut.one (returns-then-first-from-clause-upper c c.index-region.result.now (region_at c.self.inside.regions.items c.self.inside.starts.items c.args.self.now c.args.id c.index-first.result.now c.index-region.result.now at))
 
 pub swap_starts-requires-clause-other : goal.swap_starts-requires-clause-other
 swap_starts-requires-clause-other c =
@@ -139,7 +137,7 @@ returns-clause-regions c =
     rw (at.start, ← c.self.view_is) is
 
 pub returns-clause-part : goal.returns-clause-part
-returns-clause-part c r named =
+returns-clause-part c =
     let at : At c.self.inside.regions.items c.self.inside.starts.items c.args.self.now c.args.id c.index-first.result.now c.index-region.result.now = read_at c.self.inside.regions.items c.self.inside.ids.items c.self.inside.starts.items c.args.self.now c.args.id c.index-first.result.now _ _ c.index-region.result.now c.self.view_is c.self.invariant.1 (lives_cut c.self.inside.regions.items c.self.inside.starts.items c.args.self.now c.args.id c.args.from c.args.count c.requires) c.self.inside.starts.ok.0 c.index-first.ensures c.self.inside.regions.ok.0 c.index-region.ensures in
     let cut = cut_at c.self.inside.regions.items c.self.inside.starts.items c.args.self.now c.args.id c.index-first.result.now c.index-region.result.now c.args.from c.args.count at c.requires in
     let begins : c.index-region.result.now.first ≡ c.index-first.result.now = c.self.invariant.0.0.begins c.index-first.result.now c.index-region.result.now at.there at.live in
@@ -152,15 +150,23 @@ returns-clause-part c r named =
     let less : c.args.id < length c.self.inside.regions.items = omega (arith, id_within c.self.inside.regions.items c.self.inside.ids.items c.self.inside.starts.items c.args.id c.self.invariant.1 (lives_at c.self.inside.regions.items c.self.inside.starts.items c.args.self.now c.args.id c.self.view_is (lives_cut c.self.inside.regions.items c.self.inside.starts.items c.args.self.now c.args.id c.args.from c.args.count c.requires)), c.self.invariant.1.starts_len) in
     let swaps_raw : c.swap_starts.new.starts ≡ swap c.self.inside.starts.items c.args.id c.index-upper.result.now = c.swap_starts.ensures.starts ∙ ap (λ (l : List ℕ). swap l c.args.id c.index-upper.result.now) c.deref_mut-3.ensures.value in
     let swaps : (with_items c.self.inside.starts c.swap_starts.new.starts).items ≡ swap c.self.inside.starts.items c.args.id c.index-upper.result.now = with_items_is c.self.inside.starts c.swap_starts.new.starts (ap length swaps_raw ∙ (length-swap c.self.inside.starts.items c.args.id c.index-upper.result.now ∙ sym c.self.inside.starts.ok.0)) ∙ swaps_raw in
-    part_upper c.self.inside.regions.items _ c.self.inside.ids.items c.self.inside.starts.items _ c.args.self.now c.args.id c.index-first.result.now c.index-region.result.now c.args.from c.args.count c.index-upper.result.now at cut c.self.invariant.1 is len (omega (arith, c.if-first-from.false, begins)) inside more less read swaps r named
+    record {
+      part = λ r named. part_upper c.self.inside.regions.items _ c.self.inside.ids.items c.self.inside.starts.items _ c.args.self.now c.args.id c.index-first.result.now c.index-region.result.now c.args.from c.args.count c.index-upper.result.now at cut c.self.invariant.1 is len (omega (arith, c.if-first-from.false, begins)) inside more less read swaps r named;
+      live = live_kept _ c.args.id c.index-region.result.now c.args.from c.args.count cut.one (part_upper c.self.inside.regions.items _ c.self.inside.ids.items c.self.inside.starts.items _ c.args.self.now c.args.id c.index-first.result.now c.index-region.result.now c.args.from c.args.count c.index-upper.result.now at cut c.self.invariant.1 is len (omega (arith, c.if-first-from.false, begins)) inside more less read swaps c.index-region.result.now (region_at c.self.inside.regions.items c.self.inside.starts.items c.args.self.now c.args.id c.index-first.result.now c.index-region.result.now at));
+      ids = λ r named. ids_swapped c.self.inside.regions.items _ c.self.inside.ids.items c.self.inside.starts.items _ c.args.self.now c.args.id c.index-first.result.now c.index-region.result.now c.args.from c.args.count c.index-upper.result.now at c.self.invariant.1 (grind (arith, nat_tests, c.if-first-from.false, begins, more)) (omega (arith, more, inside)) read swaps r named;
+    }
 
 pub returns-clause-upper : goal.returns-clause-upper
-returns-clause-upper c r named =
+returns-clause-upper c =
     let at : At c.self.inside.regions.items c.self.inside.starts.items c.args.self.now c.args.id c.index-first.result.now c.index-region.result.now = read_at c.self.inside.regions.items c.self.inside.ids.items c.self.inside.starts.items c.args.self.now c.args.id c.index-first.result.now _ _ c.index-region.result.now c.self.view_is c.self.invariant.1 (lives_cut c.self.inside.regions.items c.self.inside.starts.items c.args.self.now c.args.id c.args.from c.args.count c.requires) c.self.inside.starts.ok.0 c.index-first.ensures c.self.inside.regions.ok.0 c.index-region.ensures in
     let cut = cut_at c.self.inside.regions.items c.self.inside.starts.items c.args.self.now c.args.id c.index-first.result.now c.index-region.result.now c.args.from c.args.count at c.requires in
     let begins : c.index-region.result.now.first ≡ c.index-first.result.now = c.self.invariant.0.0.begins c.index-first.result.now c.index-region.result.now at.there at.live in
     let inside : c.index-region.result.now.first + c.index-region.result.now.pages ≤ length c.self.inside.regions.items = c.self.invariant.0.0.inside c.index-first.result.now c.index-region.result.now at.there at.live in
-    none_lower c.self.inside.regions.items c.self.inside.starts.items c.args.self.now c.args.id c.index-first.result.now c.index-region.result.now c.args.from c.args.count at (omega (arith, c.if-first-from.false, begins)) r named
+    record {
+      part = λ r named. none_lower c.self.inside.regions.items c.self.inside.starts.items c.args.self.now c.args.id c.index-first.result.now c.index-region.result.now c.args.from c.args.count at (omega (arith, c.if-first-from.false, begins)) r named;
+      start = tt;
+      live = tt;
+    }
 
 pub returns-clause-others : goal.returns-clause-others
 returns-clause-others c =
@@ -177,40 +183,3 @@ returns-clause-others c =
     let swaps_raw : c.swap_starts.new.starts ≡ swap c.self.inside.starts.items c.args.id c.index-upper.result.now = c.swap_starts.ensures.starts ∙ ap (λ (l : List ℕ). swap l c.args.id c.index-upper.result.now) c.deref_mut-3.ensures.value in
     let swaps : (with_items c.self.inside.starts c.swap_starts.new.starts).items ≡ swap c.self.inside.starts.items c.args.id c.index-upper.result.now = with_items_is c.self.inside.starts c.swap_starts.new.starts (ap length swaps_raw ∙ (length-swap c.self.inside.starts.items c.args.id c.index-upper.result.now ∙ sym c.self.inside.starts.ok.0)) ∙ swaps_raw in
     others_swapped c.self.inside.regions.items _ c.self.inside.ids.items c.self.inside.starts.items _ c.args.self.now c.args.id c.index-first.result.now c.index-region.result.now c.args.from c.args.count c.index-upper.result.now at cut c.self.invariant.1 c.self.invariant.0.0 is len begins inside more less read swaps
-
-pub returns-clause-live : goal.returns-clause-live
-returns-clause-live c =
-    let at : At c.self.inside.regions.items c.self.inside.starts.items c.args.self.now c.args.id c.index-first.result.now c.index-region.result.now = read_at c.self.inside.regions.items c.self.inside.ids.items c.self.inside.starts.items c.args.self.now c.args.id c.index-first.result.now _ _ c.index-region.result.now c.self.view_is c.self.invariant.1 (lives_cut c.self.inside.regions.items c.self.inside.starts.items c.args.self.now c.args.id c.args.from c.args.count c.requires) c.self.inside.starts.ok.0 c.index-first.ensures c.self.inside.regions.ok.0 c.index-region.ensures in
-    let cut = cut_at c.self.inside.regions.items c.self.inside.starts.items c.args.self.now c.args.id c.index-first.result.now c.index-region.result.now c.args.from c.args.count at c.requires in
-    live_kept _ c.args.id c.index-region.result.now c.args.from c.args.count cut.one (returns-clause-part c c.index-region.result.now (region_at c.self.inside.regions.items c.self.inside.starts.items c.args.self.now c.args.id c.index-first.result.now c.index-region.result.now at))
-
-pub returns-then-end-region-clause-ids : goal.returns-then-end-region-clause-ids
-returns-then-end-region-clause-ids c r named =
-    let at : At c.self.inside.regions.items c.self.inside.starts.items c.args.self.now c.args.id c.index-first.result.now c.index-region.result.now = read_at c.self.inside.regions.items c.self.inside.ids.items c.self.inside.starts.items c.args.self.now c.args.id c.index-first.result.now _ _ c.index-region.result.now c.self.view_is c.self.invariant.1 (lives_cut c.self.inside.regions.items c.self.inside.starts.items c.args.self.now c.args.id c.args.from c.args.count c.requires) c.self.inside.starts.ok.0 c.index-first.ensures c.self.inside.regions.ok.0 c.index-region.ensures in
-    ids_stay c.self.inside.regions.items _ c.self.inside.starts.items c.args.self.now c.args.id c.index-first.result.now c.index-region.result.now c.args.from c.args.count at (grind (arith, nat_tests, c.if-end-region.true)) r named
-
-pub returns-then-first-from-clause-ids : goal.returns-then-first-from-clause-ids
-returns-then-first-from-clause-ids c r named =
-    let at : At c.self.inside.regions.items c.self.inside.starts.items c.args.self.now c.args.id c.index-first.result.now c.index-region.result.now = read_at c.self.inside.regions.items c.self.inside.ids.items c.self.inside.starts.items c.args.self.now c.args.id c.index-first.result.now _ _ c.index-region.result.now c.self.view_is c.self.invariant.1 (lives_cut c.self.inside.regions.items c.self.inside.starts.items c.args.self.now c.args.id c.args.from c.args.count c.requires) c.self.inside.starts.ok.0 c.index-first.ensures c.self.inside.regions.ok.0 c.index-region.ensures in
-    let begins : c.index-region.result.now.first ≡ c.index-first.result.now = c.self.invariant.0.0.begins c.index-first.result.now c.index-region.result.now at.there at.live in
-    ids_stay c.self.inside.regions.items _ c.self.inside.starts.items c.args.self.now c.args.id c.index-first.result.now c.index-region.result.now c.args.from c.args.count at (grind (arith, nat_tests, c.if-first-from.true, begins)) r named
-
-pub returns-then-first-from-clause-upper_id : goal.returns-then-first-from-clause-upper_id
-returns-then-first-from-clause-upper_id c =
-    let at : At c.self.inside.regions.items c.self.inside.starts.items c.args.self.now c.args.id c.index-first.result.now c.index-region.result.now = read_at c.self.inside.regions.items c.self.inside.ids.items c.self.inside.starts.items c.args.self.now c.args.id c.index-first.result.now _ _ c.index-region.result.now c.self.view_is c.self.invariant.1 (lives_cut c.self.inside.regions.items c.self.inside.starts.items c.args.self.now c.args.id c.args.from c.args.count c.requires) c.self.inside.starts.ok.0 c.index-first.ensures c.self.inside.regions.ok.0 c.index-region.ensures in
-    let cut = cut_at c.self.inside.regions.items c.self.inside.starts.items c.args.self.now c.args.id c.index-first.result.now c.index-region.result.now c.args.from c.args.count at c.requires in
-    let inside : c.index-region.result.now.first + c.index-region.result.now.pages ≤ length c.self.inside.regions.items = c.self.invariant.0.0.inside c.index-first.result.now c.index-region.result.now at.there at.live in
-    let more : c.args.from + c.args.count < c.index-region.result.now.first + c.index-region.result.now.pages = omega (arith, cut.last, c.if-end-region.false) in
-    start_at c.self.inside.regions.items c.self.inside.ids.items c.self.inside.starts.items c.args.self.now (c.args.from + c.args.count) c.index-upper.result.now _ c.self.view_is c.self.invariant.1 (omega (arith, more, inside)) c.self.inside.ids.ok.0 c.index-upper.ensures
-
-pub returns-clause-ids : goal.returns-clause-ids
-returns-clause-ids c r named =
-    let at : At c.self.inside.regions.items c.self.inside.starts.items c.args.self.now c.args.id c.index-first.result.now c.index-region.result.now = read_at c.self.inside.regions.items c.self.inside.ids.items c.self.inside.starts.items c.args.self.now c.args.id c.index-first.result.now _ _ c.index-region.result.now c.self.view_is c.self.invariant.1 (lives_cut c.self.inside.regions.items c.self.inside.starts.items c.args.self.now c.args.id c.args.from c.args.count c.requires) c.self.inside.starts.ok.0 c.index-first.ensures c.self.inside.regions.ok.0 c.index-region.ensures in
-    let cut = cut_at c.self.inside.regions.items c.self.inside.starts.items c.args.self.now c.args.id c.index-first.result.now c.index-region.result.now c.args.from c.args.count at c.requires in
-    let begins : c.index-region.result.now.first ≡ c.index-first.result.now = c.self.invariant.0.0.begins c.index-first.result.now c.index-region.result.now at.there at.live in
-    let inside : c.index-region.result.now.first + c.index-region.result.now.pages ≤ length c.self.inside.regions.items = c.self.invariant.0.0.inside c.index-first.result.now c.index-region.result.now at.there at.live in
-    let more : c.args.from + c.args.count < c.index-region.result.now.first + c.index-region.result.now.pages = omega (arith, cut.last, c.if-end-region.false) in
-    let read : c.index-upper.result.now ≡ get_or c.self.inside.ids.items (c.args.from + c.args.count) (length c.self.inside.regions.items) = get_or_read_under c.self.inside.ids.items (c.args.from + c.args.count) _ c.index-upper.result.now (length c.self.inside.regions.items) c.index-upper.ensures (omega (arith, more, inside, c.self.invariant.1.ids_len, c.self.inside.ids.ok.0)) c.self.inside.ids.ok.0 in
-    let swaps_raw : c.swap_starts.new.starts ≡ swap c.self.inside.starts.items c.args.id c.index-upper.result.now = c.swap_starts.ensures.starts ∙ ap (λ (l : List ℕ). swap l c.args.id c.index-upper.result.now) c.deref_mut-3.ensures.value in
-    let swaps : (with_items c.self.inside.starts c.swap_starts.new.starts).items ≡ swap c.self.inside.starts.items c.args.id c.index-upper.result.now = with_items_is c.self.inside.starts c.swap_starts.new.starts (ap length swaps_raw ∙ (length-swap c.self.inside.starts.items c.args.id c.index-upper.result.now ∙ sym c.self.inside.starts.ok.0)) ∙ swaps_raw in
-    ids_swapped c.self.inside.regions.items _ c.self.inside.ids.items c.self.inside.starts.items _ c.args.self.now c.args.id c.index-first.result.now c.index-region.result.now c.args.from c.args.count c.index-upper.result.now at c.self.invariant.1 (grind (arith, nat_tests, c.if-first-from.false, begins, more)) (omega (arith, more, inside)) read swaps r named

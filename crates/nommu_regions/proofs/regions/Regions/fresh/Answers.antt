@@ -52,45 +52,19 @@ returns-clause-placed g c =
     let placed = rw c.self.invariant.0.1 at c.in_ok-first.ensures.placed in
     rw (here, ← c.self.view_is) placed
 
-pub returns-clause-region : goal.returns-clause-region
-returns-clause-region g c =
-    let free = are_free_now c.self.inside.regions.items c.self.inside.regions.items c.self.inside.free c.in_ok-first.first c.args.pages refl c.self.invariant.0 c.requires.pages c.in_ok-first.ensures.free in
-    let here : start_of c.args.self.now c.index.result.now ≡ c.in_ok-first.first = start_at c.self.inside.regions.items c.self.inside.ids.items c.self.inside.starts.items c.args.self.now c.in_ok-first.first c.index.result.now _ c.self.view_is c.self.invariant.1 (omega (arith, free.inside, c.requires.pages)) c.self.inside.ids.ok.0 c.index.ensures in
-    rw here (region_new c.self.inside.regions.items c.self.inside.starts.items c.args.self.now c.in_ok-first.first c.index.result.now _ c.self.view_is here (omega (arith, free.inside, c.requires.pages)))
-
-pub returns-clause-free : goal.returns-clause-free
-returns-clause-free g c =
-    let free = are_free_now c.self.inside.regions.items c.self.inside.regions.items c.self.inside.free c.in_ok-first.first c.args.pages refl c.self.invariant.0 c.requires.pages c.in_ok-first.ensures.free in
-    let here : start_of c.args.self.now c.index.result.now ≡ c.in_ok-first.first = start_at c.self.inside.regions.items c.self.inside.ids.items c.self.inside.starts.items c.args.self.now c.in_ok-first.first c.index.result.now _ c.self.view_is c.self.invariant.1 (omega (arith, free.inside, c.requires.pages)) c.self.inside.ids.ok.0 c.index.ensures in
-    rw (here, ← c.self.view_is) free
-
-pub returns-clause-live : goal.returns-clause-live
-returns-clause-live g c =
-    let free = are_free_now c.self.inside.regions.items c.self.inside.regions.items c.self.inside.free c.in_ok-first.first c.args.pages refl c.self.invariant.0 c.requires.pages c.in_ok-first.ensures.free in
-    lives_new c.self.inside.regions.items c.self.inside.ids.items c.self.inside.starts.items c.in_ok-first.first c.index.result.now _ _ c.self.invariant.1 (omega (arith, free.inside, c.requires.pages)) c.self.inside.ids.ok.0 c.index.ensures (omega arith)
-
-pub returns-clause-regions : goal.returns-clause-regions
-returns-clause-regions g c =
-    let free = are_free_now c.self.inside.regions.items c.self.inside.regions.items c.self.inside.free c.in_ok-first.first c.args.pages refl c.self.invariant.0 c.requires.pages c.in_ok-first.ensures.free in
-    let here : start_of c.args.self.now c.index.result.now ≡ c.in_ok-first.first = start_at c.self.inside.regions.items c.self.inside.ids.items c.self.inside.starts.items c.args.self.now c.in_ok-first.first c.index.result.now _ c.self.view_is c.self.invariant.1 (omega (arith, free.inside, c.requires.pages)) c.self.inside.ids.ok.0 c.index.ensures in
-    rw (here, ← c.self.view_is) refl
-
-pub returns-clause-memory : goal.returns-clause-memory
-returns-clause-memory g c =
-    let free = are_free_now c.self.inside.regions.items c.self.inside.regions.items c.self.inside.free c.in_ok-first.first c.args.pages refl c.self.invariant.0 c.requires.pages c.in_ok-first.ensures.free in
-    let here : start_of c.args.self.now c.index.result.now ≡ c.in_ok-first.first = start_at c.self.inside.regions.items c.self.inside.ids.items c.self.inside.starts.items c.args.self.now c.in_ok-first.first c.index.result.now _ c.self.view_is c.self.invariant.1 (omega (arith, free.inside, c.requires.pages)) c.self.inside.ids.ok.0 c.index.ensures in
-    rw here (c.clear.ensures ∙ ap (λ (k : ℕ). laid c.args.mem.now k (replicate (4096 * c.args.pages) 0)) (omega arith))
-
-pub returns-clause-others : goal.returns-clause-others
-returns-clause-others g c =
-    let free = are_free_now c.self.inside.regions.items c.self.inside.regions.items c.self.inside.free c.in_ok-first.first c.args.pages refl c.self.invariant.0 c.requires.pages c.in_ok-first.ensures.free in
-    others_set c.self.inside.regions.items c.self.inside.ids.items c.self.inside.starts.items c.args.self.now c.index.result.now c.in_ok-first.first _ c.self.view_is c.self.invariant.1 (λ other differs lives. away_from_free c.self.inside.regions.items c.in_ok-first.first c.args.pages _ c.self.invariant.0.0 free c.requires.pages lives)
-
 pub returns-clause-gets : goal.returns-clause-gets
 returns-clause-gets g c = gets (kind_of c.args.chooser.now) (free_of c.args.self.now.regions).runs c.args.pages _ (returns-clause-placed g c)
 
-pub returns-clause-front : goal.returns-clause-front
-returns-clause-front g c =
+pub returns-clause-made : goal.returns-clause-made
+returns-clause-made g c =
     let free = are_free_now c.self.inside.regions.items c.self.inside.regions.items c.self.inside.free c.in_ok-first.first c.args.pages refl c.self.invariant.0 c.requires.pages c.in_ok-first.ensures.free in
     let here : start_of c.args.self.now c.index.result.now ≡ c.in_ok-first.first = start_at c.self.inside.regions.items c.self.inside.ids.items c.self.inside.starts.items c.args.self.now c.in_ok-first.first c.index.result.now _ c.self.view_is c.self.invariant.1 (omega (arith, free.inside, c.requires.pages)) c.self.inside.ids.ok.0 c.index.ensures in
-    rw (here, ← c.self.view_is) (sym (invariant_of-self-2 g c).0.1 ∙ (c.in_ok-first.ensures.pages ∙ ap (λ (f : Free). without f c.in_ok-first.first c.args.pages) c.self.invariant.0.1))
+    record {
+      free = rw (here, ← c.self.view_is) free;
+      front = rw (here, ← c.self.view_is) (sym (invariant_of-self-2 g c).0.1 ∙ (c.in_ok-first.ensures.pages ∙ ap (λ (f : Free). without f c.in_ok-first.first c.args.pages) c.self.invariant.0.1));
+      regions = rw (here, ← c.self.view_is) refl;
+      region = rw here (region_new c.self.inside.regions.items c.self.inside.starts.items c.args.self.now c.in_ok-first.first c.index.result.now _ c.self.view_is here (omega (arith, free.inside, c.requires.pages)));
+      live = lives_new c.self.inside.regions.items c.self.inside.ids.items c.self.inside.starts.items c.in_ok-first.first c.index.result.now _ _ c.self.invariant.1 (omega (arith, free.inside, c.requires.pages)) c.self.inside.ids.ok.0 c.index.ensures (omega arith);
+      others = others_set c.self.inside.regions.items c.self.inside.ids.items c.self.inside.starts.items c.args.self.now c.index.result.now c.in_ok-first.first _ c.self.view_is c.self.invariant.1 (λ other differs lives. away_from_free c.self.inside.regions.items c.in_ok-first.first c.args.pages _ c.self.invariant.0.0 free c.requires.pages lives);
+      memory = rw here (c.clear.ensures ∙ ap (λ (k : ℕ). laid c.args.mem.now k (replicate (4096 * c.args.pages) 0)) (omega arith));
+    }

@@ -35,7 +35,7 @@ pub invariant_of-memory : goal.invariant_of-memory
 invariant_of-memory c =
     let r : Range = record { from = c.args.base + 64; size = c.block_len.result - 64; writes = true; anonymous = false } in
     lone_begins c.args.flat.now c.args.base (texts c.args.args.now) (texts c.args.env.now) c.requires.page c.requires.above c.requires.inside c.in_ok-owners.owners c.add.new.self c.load_at-regs.new.mem
-    c.push.new.self.items r c.in_ok-owners.ensures c.add.ensures.len c.add.ensures.each (c.load_at-regs.ensures.length ∙ len_of c.in_ok-mem.mem 67108864 0 c.in_ok-mem.ensures)
+    c.push.new.self.items r c.in_ok-owners.ensures c.add.ensures.len c.add.ensures.each (c.load_at-regs.ensures.stands.len ∙ len_of c.in_ok-mem.mem 67108864 0 c.in_ok-mem.ensures)
     (λ i. record { from = c.args.base + 64; size = c.block_len.ensures.value i - 64; writes = true; anonymous = false }) (c.in_ok-push.ensures.items ∙ ap (λ xs. xs ++ r ∷ []) c.new-ranges.ensures.items)
 
 pub returns : goal.returns
@@ -44,5 +44,5 @@ returns c =
     let items = c.in_ok-push-2.ensures.items ∙ ap (λ xs. xs ++ record { pid = c.args.pid; regs = c.load_at-regs.result } ∷ []) c.new-stack.ensures.items in
     (λ i. record { stack = reverse (map runner_value (items i)); memory = own_memory (record { ranges = c.push.new.self.items; mem = c.load_at-regs.new.mem }) })
     ∙ solo_begins c.args.flat.now c.args.base (texts c.args.args.now) (texts c.args.env.now) c.requires.page c.requires.above c.requires.inside c.load_at-regs.new.mem c.push.new.self.items r c.args.pid
-    c.load_at-regs.result c.load_at-regs.ensures.own c.load_at-regs.ensures.regs
+    c.load_at-regs.result c.load_at-regs.ensures.stands.own c.load_at-regs.ensures.regs
     (λ i. record { from = c.args.base + 64; size = c.block_len.ensures.value i - 64; writes = true; anonymous = false }) (c.in_ok-push.ensures.items ∙ ap (λ xs. xs ++ r ∷ []) c.new-ranges.ensures.items)
