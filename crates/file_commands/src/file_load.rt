@@ -14,14 +14,14 @@ use host_io::{Host, HostError, Loaded};
 use run_setup::LineFault;
 use std::alloc::{AllocError, Global};
 
-/// The most bytes of an ELF or flat file that is loaded.
-const FILE_LIMIT: u32 = 67_108_864;
+/// The most bytes of a file of the host that a command reads as what it is: an ELF file, a flat file, an image.
+pub const INPUT_LIMIT: u32 = 67_108_864;
 
 /// Loads a file of at most 64 MiB.
 pub fn load_file<H: Host>(alloc: Global, name: &str, host: &mut H) -> Result<Vec<u8>, Ended>
     ensures { LoadsFile file_limit None (observed H.told H.faults host.old) (observed H.told H.faults host.new) name.now result }
 {
-    load_limited(alloc, name, FILE_LIMIT, None, host)
+    load_limited(alloc, name, INPUT_LIMIT, None, host)
 }
 
 /// Loads a file of at most `limit` bytes. The line is that of a manifest, if one brings the file in.

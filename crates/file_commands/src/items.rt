@@ -9,7 +9,7 @@ ghost use Rattle.file_commands.specs.Items.{has_file, load_limit};
 ghost use Rattle.file_commands.specs.ItemLoads.{LoadsItem, LoadsItems};
 
 use crate::ended::Ended;
-use crate::file_load::load_limited;
+use crate::file_load::{INPUT_LIMIT, load_limited};
 use host_io::Host;
 use manifest_text::{Item, ItemKind};
 use std::alloc::Global;
@@ -17,11 +17,8 @@ use std::alloc::Global;
 /// The most bytes of all files together.
 const FILES_LIMIT: u32 = 268_435_456;
 
-/// The most bytes of an ELF file, and of an image.
-const ELF_LIMIT: u32 = 67_108_864;
-
 /// The most bytes of a file that stands in the machine as it is, and of the console's input.
-const FILE_LIMIT: u32 = 16_777_216;
+const MACHINE_FILE_LIMIT: u32 = 16_777_216;
 
 /// Loads the files of these lines in order, up to the first load that fails or is too long. That of a folder is empty.
 pub fn load_items<H: Host>(
@@ -71,9 +68,9 @@ fn load_limit(kind: ItemKind, left: u32) -> u32
     ensures { result ≡ load_limit kind left }
 {
     match kind {
-        ItemKind::Elf | ItemKind::Root => ELF_LIMIT.min(left),
+        ItemKind::Elf | ItemKind::Root => INPUT_LIMIT.min(left),
         ItemKind::Dir => 0,
-        ItemKind::Flat | ItemKind::File | ItemKind::Stdin => FILE_LIMIT.min(left),
+        ItemKind::Flat | ItemKind::File | ItemKind::Stdin => MACHINE_FILE_LIMIT.min(left),
     }
 }
 

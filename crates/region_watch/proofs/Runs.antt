@@ -110,6 +110,16 @@ whole_on k n mode was is table before now mem after regs left stop whole less mo
     sym (run_goes k n (passes mode table true) regs left (passed_bytes mode table mem) (passed_bytes mode table after) stop less
     (rw (mode_is, mode_was, two, one) at means) carried) ∙ same
 
+pub whole_stops : (k n : ℕ) (mode was is : Mode) (table before now : List PageOwner) (mem after : List ℕ) (regs left : Regs) (stop : Stop) (whole : Ran) (done : ℕ) (ended : Stop) → k < n
+    → was ≡ mode → is ≡ was → before ≡ table → now ≡ before
+    → Means (meaning regs (passed_bytes was before mem) (passes was before true)) regs left (passed_bytes was before mem) (passed_bytes is now after) stop → stop ≢ Next
+    → after_first k (instructions (n - k) (passes mode table true) regs (passed_bytes mode table mem)) ≡ whole
+    → done ≡ k → stop ≡ ended → ran left (passed_bytes mode table after) done ended ≡ whole
+whole_stops k n mode was is table before now mem after regs left stop whole done ended less mode_was mode_is one two means other same came stopped =
+    (λ i. ran left (passed_bytes mode table after) (came i) (sym stopped i))
+    ∙ sym (run_stops k n (passes mode table true) regs left (passed_bytes mode table mem) (passed_bytes mode table after) stop less
+    (rw (mode_is, mode_was, two, one) at means) other) ∙ same
+
 pub asked_on : (k n : ℕ) (mode was is : Mode) (table before now : List PageOwner) (mem after : List ℕ) (regs left : Regs) (stop : Stop) (f g whole : Option Access) → k < n
     → was ≡ mode → is ≡ was → before ≡ table → now ≡ before
     → Means (meaning regs (passed_bytes was before mem) (passes was before true)) regs left (passed_bytes was before mem) (passed_bytes is now after) stop → stop ≡ Next

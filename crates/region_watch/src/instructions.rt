@@ -1,12 +1,8 @@
 //! Instructions of one program, one after the other.
 
-ghost use Rattle.std.specs.Prelude.{◌≡◌, ◌-◌, ◌≤◌, true, length};
+ghost use Rattle.std.specs.Prelude.{◌≡◌, ◌-◌, ◌≤◌};
 ghost use Rattle.rv32im_step.specs.Parts.{registers};
-ghost use Rattle.region_watch.specs.declared.mode.Mode.TheVariants.{Halt};
-ghost use Rattle.region_watch.specs.Private.{passes, passed_bytes, kept_bytes};
-ghost use Rattle.region_watch.specs.Instructions.{instructions, ran, all_asked};
-ghost use Rattle.region_watch.specs.Strays.{stray_after_all, stray_after_stop};
-ghost use Rattle.region_watch.specs.Watched.{first_stray};
+ghost use Rattle.region_watch.specs.Watched.{KeepsWatch, StepsLeave};
 
 use crate::watch::Watch;
 use rv32im_step::{RegisterFile, Regs, Stop, step_at};
@@ -58,18 +54,9 @@ fn at_trap(count: u32, left: u32, signal: u32) -> Progress
 
 /// `run_steps` of registers that are taken apart, so that pc is a number by itself.
 #[inline]
-#[tactic(auto, using(crate::proofs::Runs::runs))]
 fn steps_at(pc: &mut u32, x: &mut RegisterFile, watch: &mut Watch<'_>, count: u32) -> Progress
-    ensures leaves { ran (registers pc.new x.new) (passed_bytes watch.old.mode watch.old.owners.now watch.new.mem.now) result.done result.stop
-        ≡ instructions count (passes watch.old.mode watch.old.owners.now true) (registers pc.old x.old) (passed_bytes watch.old.mode watch.old.owners.now watch.old.mem.now) }
-    ensures frozen { kept_bytes watch.old.mode watch.old.owners.now watch.new.mem.now ≡ kept_bytes watch.old.mode watch.old.owners.now watch.old.mem.now }
-    ensures length { length watch.new.mem.now ≡ length watch.old.mem.now }
-    ensures owners { watch.new.owners.now ≡ watch.old.owners.now }
-    ensures mode { watch.new.mode ≡ watch.old.mode }
-    ensures first { first_stray watch.new ≡ stray_after_all watch.old.owners.now (first_stray watch.old)
-        (all_asked count (passes watch.old.mode watch.old.owners.now true) (registers pc.old x.old) (passed_bytes watch.old.mode watch.old.owners.now watch.old.mem.now)) }
-    ensures halts { watch.old.mode ≡ Halt → first_stray watch.new ≡ stray_after_stop (first_stray watch.old) result.stop }
-    ensures same_reference { watch.new.mem.ghost_name ≡ watch.old.mem.ghost_name }
+    ensures leaves { StepsLeave count (registers pc.old x.old) watch.old result (registers pc.new x.new) watch.new }
+    ensures keeps { KeepsWatch watch.old watch.new }
 {
     let mut left = count;
     while left > 0 {
@@ -95,18 +82,9 @@ fn steps_at(pc: &mut u32, x: &mut RegisterFile, watch: &mut Watch<'_>, count: u3
 /// Carries out up to `count` instructions, and stops at the first that isn't carried out. The loop has a watch of its own, whose fields
 /// stay in registers, and a first instruction, so that pc has one register.
 #[inline(never)]
-#[tactic(auto, unfolding(crate::specs::Instructions::instructions, crate::specs::Instructions::all_asked))]
 pub fn run_steps(regs: &mut Regs, watch: &mut Watch<'_>, count: u32) -> Progress
-    ensures leaves { ran regs.new (passed_bytes watch.old.mode watch.old.owners.now watch.new.mem.now) result.done result.stop
-        ≡ instructions count (passes watch.old.mode watch.old.owners.now true) regs.old (passed_bytes watch.old.mode watch.old.owners.now watch.old.mem.now) }
-    ensures frozen { kept_bytes watch.old.mode watch.old.owners.now watch.new.mem.now ≡ kept_bytes watch.old.mode watch.old.owners.now watch.old.mem.now }
-    ensures length { length watch.new.mem.now ≡ length watch.old.mem.now }
-    ensures owners { watch.new.owners.now ≡ watch.old.owners.now }
-    ensures mode { watch.new.mode ≡ watch.old.mode }
-    ensures first { first_stray watch.new ≡ stray_after_all watch.old.owners.now (first_stray watch.old)
-        (all_asked count (passes watch.old.mode watch.old.owners.now true) regs.old (passed_bytes watch.old.mode watch.old.owners.now watch.old.mem.now)) }
-    ensures halts { watch.old.mode ≡ Halt → first_stray watch.new ≡ stray_after_stop (first_stray watch.old) result.stop }
-    ensures same_reference { watch.new.mem.ghost_name ≡ watch.old.mem.ghost_name }
+    ensures leaves { StepsLeave count regs.old watch.old result regs.new watch.new }
+    ensures keeps { KeepsWatch watch.old watch.new }
 {
     if count == 0 {
         return Progress {

@@ -66,17 +66,14 @@ fn in_memory(mem: &PhysMem, addr: u32, len: u32) -> bool
 }
 
 impl<'a> Watch<'a> {
-    ghost use Rattle.region_watch.specs.Watched.{first_stray};
+    ghost use Rattle.region_watch.specs.Watched.{IsNewWatch, first_stray};
 
     /// A watch that has seen no access. The table has an entry for each page of memory.
     #[tactic(auto, unfolding(mmap_rules::specs::Space::may_use))]
     pub fn new(mem: &'a mut PhysMem, owners: &'a Owners, mode: Mode) -> Watch<'a>
         requires { length mem.old ≡ 4096 * length owners.now }
         ensures same_reference { result.mem.ghost_name ≡ mem.entry.ghost_name }
-        ensures mem { result.mem.now ≡ mem.old }
-        ensures owners { result.owners.now ≡ owners.now }
-        ensures mode { result.mode ≡ mode }
-        ensures first { first_stray result ≡ None }
+        ensures fresh { IsNewWatch mem.old owners.now mode result }
     {
         Watch::with_window(mem, owners, mode, Window { from: 0, size: 0 })
     }
@@ -94,10 +91,7 @@ impl<'a> Watch<'a> {
         requires paged { length mem.old ≡ 4096 * length owners.now }
         requires window { may_use (owns owners.now true) window.from window.size ≡ true }
         ensures same_reference { result.mem.ghost_name ≡ mem.entry.ghost_name }
-        ensures mem { result.mem.now ≡ mem.old }
-        ensures owners { result.owners.now ≡ owners.now }
-        ensures mode { result.mode ≡ mode }
-        ensures first { first_stray result ≡ None }
+        ensures fresh { IsNewWatch mem.old owners.now mode result }
     {
         Watch::with_windows(mem, owners, mode, window, Window { from: 0, size: 0 })
     }
@@ -115,10 +109,7 @@ impl<'a> Watch<'a> {
         requires window { may_use (owns owners.now true) window.from window.size ≡ true }
         requires second { may_use (owns owners.now true) second.from second.size ≡ true }
         ensures same_reference { result.mem.ghost_name ≡ mem.entry.ghost_name }
-        ensures mem { result.mem.now ≡ mem.old }
-        ensures owners { result.owners.now ≡ owners.now }
-        ensures mode { result.mode ≡ mode }
-        ensures first { first_stray result ≡ None }
+        ensures fresh { IsNewWatch mem.old owners.now mode result }
     {
         Watch {
             mem,

@@ -55,9 +55,11 @@ module _ (f : Values) (block : ℕ) (args env : List (List ℕ)) (page : block %
         others = [];
         head = refl;
         is_block = is_block;
-        own = each_one IsOwnRange range is_own;
-        named = table_first table new (mapping_of range) (free ∙ ap (λ (n : ℕ). replicate n free_page) (sym count)) (λ p. each p ∙ ap (λ (x : Range). option_map (entered x p) (slice_get table p)) is);
-        pages = len ∙ count;
+        tabled = record {
+          pages = len ∙ count;
+          named = table_first table new (mapping_of range) (free ∙ ap (λ (n : ℕ). replicate n free_page) (sym count)) (λ p. each p ∙ ap (λ (x : Range). option_map (entered x p) (slice_get table p)) is);
+          own = each_one IsOwnRange range is_own;
+        };
         memory = mem_len;
       }))
 

@@ -16,8 +16,8 @@ use Rattle.mmap_rules.proofs.TableLess.{table_without, is_dropped}
 use Rattle.mmap_rules.proofs.TableLeft.{table_left}
 use Rattle.mmap_rules.proofs.Parts.{Cuts, WholePages, both, run_of}
 use Rattle.mmap_rules.proofs.Cuts.{Stand, stand, cut_shaped, two_parts}
-use Rattle.flat_loader.specs.Alone.{can_cut, part, parts}
-use Rattle.replay_check.specs.Ranges.{mapping_of, mappings_of, IsOwnRange, AreOwnRanges, IsLone}
+use Rattle.flat_loader.specs.Alone.{part, parts}
+use Rattle.replay_check.specs.Ranges.{mapping_of, mappings_of, IsOwnRange, AreOwnRanges, AreTabled, CanCutAt, IsLone}
 use Rattle.replay_check.proofs.OwnBytes.{mapping_is}
 
 -- ---- the mappings of such a list
@@ -45,16 +45,16 @@ map_cut k ranges others =
 
 -- ---- one goes
 
-pub taken_named : (table new : List PageOwner) (ranges : List Range) (k : ℕ) (r : Range) → IsTable table (mappings_of ranges) → slice_get ranges k ≡ Some r
+pub taken : (table new : List PageOwner) (ranges : List Range) (k : ℕ) (r : Range) → AreTabled ranges table → slice_get ranges k ≡ Some r → length new ≡ length table
     → ((page : ℕ) → slice_get new page ≡ option_map (taken_out r page) (slice_get table page))
-    → IsTable new (mappings_of (take k ranges ++ drop (k + 1) ranges))
-taken_named table new ranges k r is there each =
-    subst (λ (l : List Range). IsTable new (mappings_of l)) (is_dropped ranges k)
-    (subst (IsTable new) (sym (map_cut k ranges [])) (table_without table new (mappings_of ranges) k (mapping_of r) is (there_mapped ranges k r there) each))
-
-pub taken_own : (ranges : List Range) (k : ℕ) → AreOwnRanges ranges → AreOwnRanges (take k ranges ++ drop (k + 1) ranges)
-taken_own ranges k own =
-    subst AreOwnRanges (is_dropped ranges k) (each_cut IsOwnRange k ranges [] own (λ j x got. absurd (none-some x got)))
+    → AreTabled (take k ranges ++ drop (k + 1) ranges) new
+taken table new ranges k r is there len each = record {
+  pages = len ∙ is.pages;
+  named =
+      subst (λ (l : List Range). IsTable new (mappings_of l)) (is_dropped ranges k)
+      (subst (IsTable new) (sym (map_cut k ranges [])) (table_without table new (mappings_of ranges) k (mapping_of r) is.named (there_mapped ranges k r there) each));
+  own = subst AreOwnRanges (is_dropped ranges k) (each_cut IsOwnRange k ranges [] is.own (λ j x got. absurd (none-some x got)));
+}
 
 -- ---- one is cut
 
@@ -64,16 +64,15 @@ pub record CutAt (ranges : List Range) (k : ℕ) (r : Range) (addr size : ℕ) :
   pub cuts : Cuts 16384 (mapping_of r) addr size
   pub stand : Stand 16384 (mapping_of r) addr size
 
-pub cut_at : (ranges mid : List Range) (k : ℕ) (r : Range) (addr n : ℕ) → AreOwnRanges ranges → mid ≡ ranges → k < length ranges
-    → r ≡ get_or mid k r → addr % 4096 ≡ 0 → 0 < n → ((x : Range) → slice_get ranges k ≡ Some x → can_cut addr (4096 * n) x ≡ true) → CutAt ranges k r addr (4096 * n)
-cut_at ranges mid k r addr n own same within value begins some can =
-    let there : slice_get ranges k ≡ Some r = slice_get_read ranges (length ranges) k r refl within (value ∙ ap (λ (l : List Range). get_or l k r) same) in
+pub cut_at : (ranges mid : List Range) (k : ℕ) (r : Range) (addr n : ℕ) → AreOwnRanges ranges → mid ≡ ranges → r ≡ get_or mid k r → CanCutAt ranges k addr n → CutAt ranges k r addr (4096 * n)
+cut_at ranges mid k r addr n own same value c =
+    let there : slice_get ranges k ≡ Some r = slice_get_read ranges (length ranges) k r refl c.place (value ∙ ap (λ (l : List Range). get_or l k r) same) in
     let is = own k r there in
     let cuts : Cuts 16384 (mapping_of r) addr (4096 * n) = record {
       mapping = mapping_is r is;
-      can = can r there;
-      begins = begins;
-      some = omega (arith, some);
+      can = c.can r there;
+      begins = c.begins;
+      some = (let some = c.some in omega (arith, some));
       whole = omega arith;
     } in
     record { there = there; own = is; cuts = cuts; stand = stand 16384 (mapping_of r) addr (4096 * n) cuts }
@@ -146,18 +145,16 @@ cut_items ranges mid less ys zs k r addr size same within is_less is_ys is_zs =
 -- ---- the block stays
 
 pub lone_left : (ranges : List Range) (table : List PageOwner) (mem : List ℕ) → IsLone ranges table mem → (new : List PageOwner) (left others : List Range) (k : ℕ) (r : Range)
-    → slice_get ranges k ≡ Some r → r.from % 4096 ≡ 0 → left ≡ take k ranges ++ others ++ drop (k + 1) ranges → length new ≡ 16384 → IsTable new (mappings_of left) → AreOwnRanges left
+    → slice_get ranges k ≡ Some r → r.from % 4096 ≡ 0 → left ≡ take k ranges ++ others ++ drop (k + 1) ranges → AreTabled left new
     → IsLone left new mem
-lone_left ranges table mem l new left others zero r there begins is pages named own =
+lone_left ranges table mem l new left others zero r there begins is tabled =
     let same : l.block ≡ r = same_Some _ _ (ap (λ (rs : List Range). slice_get rs 0) (sym l.head) ∙ there) in
     absurd (l.is_block.header (ap (λ (x : Range). x.from % 4096) same ∙ begins))
-lone_left ranges table mem l new left others (suc k) r there begins is pages named own = record {
+lone_left ranges table mem l new left others (suc k) r there begins is tabled = record {
   block = l.block;
   others = take k l.others ++ others ++ drop (k + 1) l.others;
   head = is ∙ ap (λ (rs : List Range). take (suc k) rs ++ others ++ drop (suc k + 1) rs) l.head ∙ ap (λ (n : ℕ). l.block ∷ take k l.others ++ others ++ drop n (l.block ∷ l.others)) (let next : suc k + 1 ≡ suc (k + 1) = omega arith in next);
   is_block = l.is_block;
-  own = own;
-  named = named;
-  pages = pages;
+  tabled = tabled;
   memory = l.memory;
 }

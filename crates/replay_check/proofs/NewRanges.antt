@@ -303,14 +303,14 @@ module _ (ranges : List Range) (table : List PageOwner) (mem : List ℕ) (l : Is
   -- where others have bytes in a page of it, they agree
   agrees : (page : ℕ) (o : PageOwner) → slice_get table page ≡ Some o → meets r page ≡ true → 0 < o.uses → Says o page r
   agrees page o there meet some =
-      let counts = l.named.counts page o there in
+      let counts = l.tabled.named.counts page o there in
       let f = found_counted (λ (x : Mapping). meets x.range page) (mappings_of ranges) (omega (arith, some, counts)) in
       let made = made_of ranges f.at f.item f.there in
       let n = made.range in
       let same : f.item.range ≡ n = ap (λ (x : Mapping). x.range) made.is in
-      let own = l.own f.at n made.there in
+      let own = l.tabled.own f.at n made.there in
       let met : meets n page ≡ true = ap (λ (x : Range). meets x page) (sym same) ∙ f.passes in
-      let says : Says o page n = subst (Says o page) same (l.named.says page f.at o f.item there f.there f.passes) in
+      let says : Says o page n = subst (Says o page) same (l.tabled.named.says page f.at o f.item there f.there f.passes) in
       let a = 2 ^ 31 + 4096 * page + 4095 in
       let inside = met_last n page own.shaped.whole own.shaped.above met in
       let bounds = met_bounds r page is_own.shaped.whole is_own.shaped.above meet in
@@ -337,9 +337,11 @@ module _ (ranges : List Range) (table : List PageOwner) (mem : List ℕ) (l : Is
         others = l.others ++ r ∷ [];
         head = is ∙ ap (λ (rs : List Range). rs ++ r ∷ []) l.head;
         is_block = l.is_block;
-        own = subst AreOwnRanges (sym is) (each_append IsOwnRange ranges (r ∷ []) l.own (each_one IsOwnRange r is_own));
-        named = subst (IsTable new) (sym more) (table_more table new (mappings_of ranges) (mapping_of r) l.named agrees each);
-        pages = len ∙ l.pages;
+        tabled = record {
+          pages = len ∙ l.tabled.pages;
+          named = subst (IsTable new) (sym more) (table_more table new (mappings_of ranges) (mapping_of r) l.tabled.named agrees each);
+          own = subst AreOwnRanges (sym is) (each_append IsOwnRange ranges (r ∷ []) l.tabled.own (each_one IsOwnRange r is_own));
+        };
         memory = mem_len ∙ l.memory;
       }
 

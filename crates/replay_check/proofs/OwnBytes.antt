@@ -74,13 +74,13 @@ mappings_are ranges own j m there =
 -- ---- the table
 
 pub owned : (ranges : List Range) (table : List PageOwner) (mem : List ℕ) → IsLone ranges table mem → owns table false ≡ own_of ranges
-owned ranges table mem l = table_owns 16384 table (mappings_of ranges) l.named (mappings_are ranges l.own) l.pages ∙ own_mapped ranges
+owned ranges table mem l = table_owns 16384 table (mappings_of ranges) l.tabled.named (mappings_are ranges l.tabled.own) l.tabled.pages ∙ own_mapped ranges
 
 pub writable : (ranges : List Range) (table : List PageOwner) (mem : List ℕ) → IsLone ranges table mem → owns table true ≡ writable_of ranges
-writable ranges table mem l = table_writable 16384 table (mappings_of ranges) l.named (mappings_are ranges l.own) l.pages ∙ writable_mapped ranges
+writable ranges table mem l = table_writable 16384 table (mappings_of ranges) l.tabled.named (mappings_are ranges l.tabled.own) l.tabled.pages ∙ writable_mapped ranges
 
 pub paged : (ranges : List Range) (table : List PageOwner) (mem : List ℕ) → IsLone ranges table mem → length mem ≡ 4096 * length table
-paged ranges table mem l = l.memory ∙ ap (λ n. 4096 * n) (sym l.pages)
+paged ranges table mem l = l.memory ∙ ap (λ n. 4096 * n) (sym l.tabled.pages)
 
 -- ---- the block, in which the processes may use all
 
@@ -95,7 +95,7 @@ pub window_own : (ranges : List Range) (table : List PageOwner) (mem : List ℕ)
 window_own ranges table mem l b is =
     let first : slice_get ranges 0 ≡ Some l.block = ap (λ (rs : List Range). slice_get rs 0) l.head in
     let same : b ≡ l.block = is ∙ ap (λ (rs : List Range). slice_index_or rs 0 b) l.head in
-    let shaped = (l.own 0 l.block first).shaped in
+    let shaped = (l.tabled.own 0 l.block first).shaped in
     let above = shaped.above in
     let inside = shaped.inside in
     let fits : l.block.from + l.block.size ≤ 2 ^ 32 = omega (arith, above, inside) in

@@ -237,7 +237,7 @@ pub cut_begins : (ranges : List Range) (table : List PageOwner) (mem : List ℕ)
     → r.from % 4096 ≡ 0
 cut_begins ranges table mem l addr size k r there can =
     let first : r.anonymous ≡ true = (and_parts r.anonymous (nat_le r.from addr) (and_parts (r.anonymous && nat_le r.from addr) (nat_le (addr + size) (r.from + r.size)) can).0).0 in
-    (l.own k r there).anonymous first
+    (l.tabled.own k r there).anonymous first
 
 pub exact_begins : (addr size : ℕ) (r : Range) → addr % 4096 ≡ 0 → is_exact addr size r ≡ true → r.from % 4096 ≡ 0
 exact_begins addr size r begins is =

@@ -1,5 +1,5 @@
 -- The ranges of one program, in memory of all its pages.
-use Rattle.std.specs.Prelude.{◌≡◌, ℕ, ◌+◌, ◌-◌, ◌*◌, ◌/◌, ◌%◌, ◌≢◌, true, false, List, ◌∷◌, length, map, slice_get, Some}
+use Rattle.std.specs.Prelude.{◌≡◌, ℕ, ◌+◌, ◌-◌, ◌*◌, ◌/◌, ◌%◌, ◌<◌, ◌≢◌, true, false, List, ◌∷◌, length, map, slice_get, Some}
 use Rattle.nommu_regions.specs.declared.region.Source.TheVariants.{Own}
 use Rattle.mmap_rules.specs.declared.mapping.Range.{Range}
 use Rattle.mmap_rules.specs.declared.mapping.Mapping.{Mapping}
@@ -7,7 +7,7 @@ use Rattle.mmap_rules.specs.declared.page_owner.PageOwner.{PageOwner}
 use Rattle.mmap_rules.specs.Space.{page_size}
 use Rattle.mmap_rules.specs.Owners.{IsShaped, IsTable, distance}
 use Rattle.region_watch.specs.Private.{only, physical}
-use Rattle.flat_loader.specs.Alone.{OwnMemory, own_of, most_pages}
+use Rattle.flat_loader.specs.Alone.{OwnMemory, own_of, can_cut, most_pages}
 
 -- its ranges, and all of memory
 pub record LoneBytes : Type 0 where
@@ -39,6 +39,19 @@ pub record IsOwnRange (r : Range) : Type 0 where
 abbrev pub AreOwnRanges : List Range → Type 0
 AreOwnRanges ranges = (j : ℕ) (r : Range) → slice_get ranges j ≡ Some r → IsOwnRange r
 
+-- they are the ranges of a table of all pages
+pub record AreTabled (ranges : List Range) (table : List PageOwner) : Type 0 where
+  pub pages : length table ≡ most_pages
+  pub named : IsTable table (mappings_of ranges)
+  pub own : AreOwnRanges ranges
+
+-- so many pages from an address on can be cut out of the range at a place
+pub record CanCutAt (ranges : List Range) (place addr pages : ℕ) : Type 0 where
+  pub begins : addr % page_size ≡ 0
+  pub some : 0 < pages
+  pub place : place < length ranges
+  pub can : (r : Range) → slice_get ranges place ≡ Some r → can_cut addr (page_size * pages) r ≡ true
+
 -- the block, whose header isn't own
 pub record IsBlock (r : Range) : Type 0 where
   pub writes : r.writes ≡ true
@@ -51,7 +64,5 @@ pub record IsLone (ranges : List Range) (table : List PageOwner) (mem : List ℕ
   pub others : List Range
   pub head : ranges ≡ block ∷ others
   pub is_block : IsBlock block
-  pub own : AreOwnRanges ranges
-  pub named : IsTable table (mappings_of ranges)
-  pub pages : length table ≡ most_pages
+  pub tabled : AreTabled ranges table
   pub memory : length mem ≡ page_size * most_pages

@@ -8,15 +8,12 @@ ghost use Rattle.flat_loader.specs.Alone.{solo_begin};
 ghost use Rattle.replay_check.specs.Solos.{solo_of};
 
 use crate::lone::{Lone, Runner};
-use crate::memory::LoneMemory;
+use crate::memory::{LoneMemory, MOST_PAGES};
 use bflt_format::Flat;
 use flat_loader::{block_len, load_at};
 use mmap_rules::{Owners, Range};
 use phys_mem::PhysMem;
 use std::alloc::{AllocError, Global};
-
-/// The most pages that memory can have.
-const PAGES: u32 = 16_384;
 
 /// The bytes at a block's start that belong to nobody: the flat file's header.
 const HEADER: u32 = 64;
@@ -37,7 +34,7 @@ impl Lone {
         requires inside { base + block_len_of (flat_original flat.now) ≤ 2 ^ 31 + 2 ^ 26 }
         ensures { IfOk result (λ lone. solo_of lone ≡ solo_begin (flat_loading flat.now base (texts args.now) (texts env.now)) pid) }
     {
-        let mut mem = PhysMem::new(alloc, PAGES)?;
+        let mut mem = PhysMem::new(alloc, MOST_PAGES)?;
         let regs = load_at(&mut mem, base, flat, args, env);
         let range = Range {
             from: base + HEADER,
@@ -45,7 +42,7 @@ impl Lone {
             writes: true,
             anonymous: false,
         };
-        let mut owners = Owners::new(alloc, PAGES)?;
+        let mut owners = Owners::new(alloc, MOST_PAGES)?;
         owners.add(&range);
         let mut ranges = Vec::new(alloc);
         ranges.push(range)?;

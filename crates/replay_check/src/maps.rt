@@ -7,15 +7,12 @@ ghost use Rattle.replay_check.specs.Ranges.{own_memory};
 ghost use Rattle.replay_check.specs.Answers.{GivesOrRefutes, IsNewRange, byte_lies, mapped};
 ghost use Rattle.replay_check.specs.Solos.{item_of};
 
-use crate::memory::LoneMemory;
+use crate::memory::{LoneMemory, MEMORY_END};
 use crate::ranges::{cut_range, place_of_cut, place_of_exact, take_range};
 use call_log::{Entry, has_flag};
 use mmap_rules::{MAP_ANONYMOUS, PROT_WRITE, Range, pages_for};
 use phys_mem::{BASE, PAGE};
 use std::alloc::AllocError;
-
-/// The address behind the last page that memory can have.
-const END: u64 = 0x8400_0000;
 
 /// The range of an mmap2 at its reply. None where it is empty, not on a page, or not in memory.
 fn new_range(entry: &Entry) -> Option<Range>
@@ -23,7 +20,7 @@ fn new_range(entry: &Entry) -> Option<Range>
 {
     let from = entry.reply;
     let size = u64::from(PAGE) * u64::from(pages_for(entry.args[1]));
-    if size == 0 || from % PAGE != 0 || from < BASE || u64::from(from) + size > END {
+    if size == 0 || from % PAGE != 0 || from < BASE || u64::from(from) + size > MEMORY_END {
         return None;
     }
     let anonymous = has_flag(entry.args[3], MAP_ANONYMOUS);

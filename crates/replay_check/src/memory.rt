@@ -19,6 +19,12 @@ use rv32im_step::Regs;
 use std::alloc::Global;
 use std::marker::Model;
 
+/// The most pages that memory can have.
+pub(crate) const MOST_PAGES: u32 = 16_384;
+
+/// The address behind the last of them.
+pub(crate) const MEMORY_END: u64 = 0x8400_0000;
+
 /// Memory of which one program owns some ranges.
 #[derive(Drop)]
 pub(crate) struct LoneMemory {

@@ -8,6 +8,7 @@ ghost use Rattle.replay_check.specs.Replays.{original_value, placed_verdict, rep
 
 use crate::fault::{ReplayFault, refused};
 use crate::lone::Lone;
+use crate::memory::MEMORY_END;
 use crate::original::Original;
 use crate::replaying::replay_all;
 use crate::verdict::Verdict;
@@ -16,9 +17,6 @@ use flat_loader::{block_len, frame_fits};
 use items_text::Items;
 use originals::elf_program;
 use std::alloc::Global;
-
-/// The address behind the last page that memory can have.
-const END: u64 = 0x8400_0000;
 
 /// The bytes of stack that an ELF file's program can have.
 const LEAST_STACK: u32 = 16;
@@ -50,7 +48,7 @@ fn replay_flat(alloc: Global, flat: &Flat, items: &Items) -> Result<Verdict, Rep
     if !frame_fits(flat, &items.args, &items.env) {
         return Err(ReplayFault::Args);
     }
-    if u64::from(items.base) + u64::from(block_len(flat)) > END {
+    if u64::from(items.base) + u64::from(block_len(flat)) > MEMORY_END {
         return Err(ReplayFault::Base);
     }
     let mut lone = Lone::begin(alloc, flat, items.base, items.pid, &items.args, &items.env)?;

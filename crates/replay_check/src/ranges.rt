@@ -1,10 +1,9 @@
 //! A list of ranges of which one goes or is cut.
 
-ghost use Rattle.std.specs.Prelude.{◌≡◌, ◌+◌, ◌*◌, ◌%◌, ◌^◌, ◌<◌, ◌≤◌, ◌++◌, true, IfOk, OnErr, Some, length, slice_get, take, drop, position, vec_capacity};
+ghost use Rattle.std.specs.Prelude.{◌≡◌, ◌+◌, ◌*◌, ◌^◌, ◌<◌, ◌≤◌, ◌++◌, IfOk, OnErr, Some, length, slice_get, take, drop, position, vec_capacity};
 ghost use Rattle.mmap_rules.specs.declared.mapping.Range.{Range};
-ghost use Rattle.mmap_rules.specs.Owners.{IsTable};
 ghost use Rattle.flat_loader.specs.Alone.{is_exact, can_cut, part, parts};
-ghost use Rattle.replay_check.specs.Ranges.{mappings_of, AreOwnRanges};
+ghost use Rattle.replay_check.specs.Ranges.{AreTabled, CanCutAt};
 
 use mmap_rules::{Owners, Range};
 use phys_mem::PAGE;
@@ -42,14 +41,10 @@ pub(crate) fn place_of_cut(ranges: &[Range], addr: u32, pages: u32) -> Option<us
 
 /// Takes a range off the list, and off the table.
 pub(crate) fn take_range(ranges: &mut Vec<Range>, owners: &mut Owners, place: usize)
-    requires pages { length owners.old ≡ 16384 }
-    requires named { IsTable owners.old (mappings_of ranges.old.items) }
-    requires own { AreOwnRanges ranges.old.items }
+    requires tabled { AreTabled ranges.old.items owners.old }
     requires place { place < length ranges.old.items }
     ensures ranges { ranges.new.items ≡ take place ranges.old.items ++ drop (place + 1) ranges.old.items }
-    ensures pages { length owners.new ≡ 16384 }
-    ensures named { IsTable owners.new (mappings_of ranges.new.items) }
-    ensures own { AreOwnRanges ranges.new.items }
+    ensures tabled { AreTabled ranges.new.items owners.new }
 {
     let range = ranges.remove(place);
     owners.remove(&range);
@@ -82,17 +77,10 @@ pub(crate) fn cut_range(
     addr: u32,
     pages: u32,
 ) -> Result<(), AllocError>
-    requires pages { length owners.old ≡ 16384 }
-    requires named { IsTable owners.old (mappings_of ranges.old.items) }
-    requires own { AreOwnRanges ranges.old.items }
-    requires begins { addr % 4096 ≡ 0 }
-    requires some { 0 < pages }
-    requires place { place < length ranges.old.items }
-    requires can { (r : Range) → slice_get ranges.old.items place ≡ Some r → can_cut addr (4096 * pages) r ≡ true }
+    requires tabled { AreTabled ranges.old.items owners.old }
+    requires cuts { CanCutAt ranges.old.items place addr pages }
     ensures ranges { (r : Range) → slice_get ranges.old.items place ≡ Some r → IfOk result (λ _. ranges.new.items ≡ take place ranges.old.items ++ parts r addr (4096 * pages) ++ drop (place + 1) ranges.old.items) }
-    ensures pages { length owners.new ≡ 16384 }
-    ensures named { IsTable owners.new (mappings_of ranges.new.items) }
-    ensures own { AreOwnRanges ranges.new.items }
+    ensures tabled { AreTabled ranges.new.items owners.new }
     ensures refused { OnErr result (ranges.new.items ≡ ranges.old.items) }
 {
     ranges.reserve(2)?;

@@ -56,6 +56,12 @@ key_cmp a b = ordering_then (nat_cmp a.0 b.0) (slice_cmp nat_cmp a.1.now b.1.now
 abbrev pub HasNames : tree.BTreeSet (ℕ × Bor (List ℕ)) → List Entry → Type 0
 HasNames names entries = (key : ℕ × Bor (List ℕ)) → tree.contains key_cmp names key ≡ list_any (is_named key.0 key.1.now) entries
 
+-- no header was taken yet, and nowhere is left to go on
+pub record NothingTaken (named : tree.BTreeSet (ℕ × Bor (List ℕ))) (taken : List code_entry.Entry) (left : List Level) : Type 0 where
+  pub names : HasNames named []
+  pub entries : taken ≡ []
+  pub levels : left ≡ []
+
 -- the set has the positions of the files' headers, and nothing else
 abbrev pub HasFiles : tree.BTreeSet ℕ → List Entry → Type 0
 HasFiles files entries = (at : ℕ) → tree.contains nat_cmp files at ≡ list_any (is_file_at at) entries

@@ -1,10 +1,10 @@
 //! The walk over an image: a header, then its list if it is a folder, then the header that its next names.
 
-ghost use Rattle.std.specs.Prelude.{◌≡◌, ◌+◌, ◌<◌, ◌≤◌, ◌^◌, ◌⊎◌, IfOk, [], None, Some, Ok, Err, reverse, length, OnOk, IfErr, MatchResult};
+ghost use Rattle.std.specs.Prelude.{◌≡◌, ◌+◌, ◌<◌, ◌≤◌, ◌^◌, ◌⊎◌, IfOk, None, Some, Ok, Err, reverse, length, OnOk, IfErr, MatchResult};
 ghost use Rattle.romfs_image.specs.Header.{name_end};
 ghost use Rattle.romfs_image.specs.Walk.{pending, levels_behind, entries_behind, repeat_fault, walked};
 ghost use Rattle.romfs_image.specs.declared.fault.RomFault.TheVariants.{Memory};
-ghost use Rattle.romfs_image.specs.Code.{header_value, entry_level, found, HasNames};
+ghost use Rattle.romfs_image.specs.Code.{header_value, entry_level, found, HasNames, NothingTaken};
 ghost use Rattle.romfs_image.specs.Reading.{FilesFit};
 
 use crate::fault::RomFault;
@@ -70,9 +70,7 @@ fn take_all<'a>(
 ) -> Result<(), RomFault>
     requires long { length image.now < 2 ^ 32 }
     requires volume { name_end image.now 0 ≤ length image.now }
-    requires names { HasNames names.old [] }
-    requires entries { entries.old.items ≡ [] }
-    requires levels { levels.old.items ≡ [] }
+    requires nothing { NothingTaken names.old entries.old.items levels.old.items }
     ensures walked { OnOk result (walked image.now ≡ Ok (found entries.new.items)) }
     ensures fit { OnOk result (FilesFit image.now (found entries.new.items)) }
     ensures fault { IfErr result (λ fault. (fault ≡ Memory) ⊎ (walked image.now ≡ Err fault)) }

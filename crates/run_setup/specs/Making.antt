@@ -5,6 +5,8 @@ use Rattle.bflt_format.specs.Spelling.{spell}
 use Rattle.flat_loader.specs.Original.{header_len}
 use Rattle.call_log.specs.Programs.{paths_of}
 use Rattle.mem_files.specs.Inodes.{most_nodes, node_count}
+use Rattle.mem_files.specs.Trees.{IsTree, AreNamedAndClosed}
+use Rattle.machine_world.specs.Ages.{AreChanged}
 use Rattle.machine_world.specs.Programs.{programs_of}
 use Rattle.manifest_text.specs.Values.{Item}
 use Rattle.run_setup.specs.declared.fault.LineFault.{LineFault}
@@ -29,6 +31,14 @@ HasPaths f = length f.paths.items ≡ length f.flats.items
 pub record HasNodes (f : RunFiles) : Type 0 where
   pub each : length f.flats.items < node_count f.tree
   pub few : node_count f.tree ≤ most_nodes
+
+-- what a run can begin with: no file was changed, and the tree has one root, clear names, and nothing that is open
+pub record BeginsRun (f : RunFiles) : Type 0 where
+  pub paths : HasPaths f
+  pub count : HasNodes f
+  pub unchanged : AreChanged 0 f.tree
+  pub tree : IsTree f.tree
+  pub closed : AreNamedAndClosed f.tree
 
 -- with what one line brought in
 pub record Added (wanted : Result Brought LineFault) (old new : RunFiles) : Type 0 where

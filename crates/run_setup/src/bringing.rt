@@ -2,16 +2,14 @@
 
 ghost use Rattle.std.specs.Prelude.{◌≡◌, map, length, IfOk};
 ghost use Rattle.std.specs.List.{AllByRecursion};
-ghost use Rattle.mem_files.specs.Trees.{IsTree, AreNamedAndClosed};
 ghost use Rattle.bflt_format.specs.Fault.{flat_fault};
 ghost use Rattle.romfs_image.specs.Reading.{rom_read};
 ghost use Rattle.romfs_image.specs.Code.{node_value};
-ghost use Rattle.machine_world.specs.Ages.{AreChanged};
 ghost use Rattle.manifest_text.specs.Values.{item_value, vec_texts};
 ghost use Rattle.manifest_text.specs.Laws.{IsItem, HasClearPath};
 ghost use Rattle.rom_tree.specs.Names.{CanBeWritten};
 ghost use Rattle.run_setup.specs.Brought.{nothing_brought, file_brought, folder_brought, with_program, rom_file_brought, node_brought, nodes_brought, image_brought, brought, all_brought};
-ghost use Rattle.run_setup.specs.Making.{HasPaths, HasNodes, brought_value, Brings, BringsAll};
+ghost use Rattle.run_setup.specs.Making.{HasPaths, HasNodes, BeginsRun, brought_value, Brings, BringsAll};
 ghost use Rattle.run_setup.specs.Programs.{made_value};
 
 use crate::fault::{LineFault, LineRefusal, refusal_at};
@@ -41,11 +39,7 @@ pub fn bring(alloc: Global, items: &[Item], files: Vec<Vec<u8>>) -> Result<RunFi
     requires items { AllByRecursion IsItem (map item_value items.now) }
     requires files { length files.items ≡ length items.now }
     ensures brought { BringsAll (all_brought (map item_value items.now) (vec_texts files.items) nothing_brought) result }
-    ensures paths { IfOk result HasPaths }
-    ensures count { IfOk result HasNodes }
-    ensures unchanged { IfOk result (λ run. AreChanged 0 run.tree) }
-    ensures tree { IfOk result (λ run. IsTree run.tree) }
-    ensures closed { IfOk result (λ run. AreNamedAndClosed run.tree) }
+    ensures begins { IfOk result BeginsRun }
     ensures names { AllByRecursion HasClearPath (map item_value items.now) → IfOk result (λ run. CanBeWritten run.tree) }
 {
     let mut run = match RunFiles::new(alloc) {

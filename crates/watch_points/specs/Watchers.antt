@@ -1,15 +1,12 @@
--- What is watched, and what instructions leave that are watched.
-use Rattle.std.specs.Prelude.{◌≡◌, ◌<◌, ◌≤◌, ℕ, Bool, true, List, length}
+-- What is watched, and the hits of instructions that are watched.
+use Rattle.std.specs.Prelude.{◌≡◌, ◌<◌, ◌≤◌, ℕ, Bool, true, List}
 use Rattle.std.specs.Borrow.{Bor}
 use Rattle.rv32im_step.specs.declared.regs.Regs.{Regs}
 use Rattle.rv32im_step.specs.declared.stop.Stop.TheVariants.{Next}
 use Rattle.region_watch.specs.declared.instructions.Progress.{Progress}
-use Rattle.region_watch.specs.declared.mode.Mode.TheVariants.{Halt}
 use Rattle.region_watch.specs.declared.watch.Watch.{Watch}
-use Rattle.region_watch.specs.Private.{passes, passed_bytes, kept_bytes}
-use Rattle.region_watch.specs.Instructions.{instructions, ran, all_asked}
-use Rattle.region_watch.specs.Strays.{stray_after_all, stray_after_stop}
-use Rattle.region_watch.specs.Watched.{first_stray}
+use Rattle.region_watch.specs.Private.{passes, passed_bytes}
+use Rattle.region_watch.specs.Instructions.{all_asked}
 use Rattle.watch_points.specs.declared.point.PointKind.{PointKind}
 use Rattle.watch_points.specs.declared.point.WatchPoint.{WatchPoint}
 use Rattle.watch_points.specs.declared.span.Span.{Span}
@@ -42,22 +39,6 @@ watched_by watcher = watched_at watcher.point.now watcher.spans.now
 pub record ComesOn (count : ℕ) (progress : Progress) : Type 0 where
   pub bound : progress.done ≤ count
   pub goes : 0 < count → progress.stop ≡ Next → 0 < progress.done
-
--- the watch has the same table and mode, and stands over the same memory
-pub record KeepsWatch (old new : Watch) : Type 0 where
-  pub owners : new.owners.now ≡ old.owners.now
-  pub mode : new.mode ≡ old.mode
-  pub same_reference : new.mem.ghost_name ≡ old.mem.ghost_name
-
--- what they leave: the registers, the bytes that pass and how far they came are those of `instructions`, all other bytes and the size of
--- memory stay, and the first access that strays is known, which is the one at which a watch halts
-pub record StepsLeave (count : ℕ) (regs : Regs) (old : Watch) (progress : Progress) (after : Regs) (new : Watch) : Type 0 where
-  pub leaves : ran after (passed_bytes old.mode old.owners.now new.mem.now) progress.done progress.stop
-      ≡ instructions count (passes old.mode old.owners.now true) regs (passed_bytes old.mode old.owners.now old.mem.now)
-  pub frozen : kept_bytes old.mode old.owners.now new.mem.now ≡ kept_bytes old.mode old.owners.now old.mem.now
-  pub size : length new.mem.now ≡ length old.mem.now
-  pub first : first_stray new ≡ stray_after_all old.owners.now (first_stray old) (all_asked count (passes old.mode old.owners.now true) regs (passed_bytes old.mode old.owners.now old.mem.now))
-  pub halts : old.mode ≡ Halt → first_stray new ≡ stray_after_stop (first_stray old) progress.stop
 
 -- the hits that are found behind them: the loads and stores that they carry out and that hit, in their order
 abbrev pub found_behind : Watched → (pid count : ℕ) → Regs → Watch → Found → Found

@@ -2,10 +2,10 @@
 
 ghost use Rattle.std.specs.Prelude.{◌≡◌, ◌<◌, ◌^◌, None, IfSome};
 ghost use Rattle.rv32im_step.specs.Parts.{registers};
-ghost use Rattle.region_watch.specs.Watched.{first_stray};
+ghost use Rattle.region_watch.specs.Watched.{KeepsWatch, StepsLeave, first_stray};
 ghost use Rattle.watch_points.specs.Near.{Left, listed, told};
 ghost use Rattle.watch_points.specs.Points.{IsShort, with_hits};
-ghost use Rattle.watch_points.specs.Watchers.{IsWatcher, ComesOn, KeepsWatch, StepsLeave, found_behind, watched_by};
+ghost use Rattle.watch_points.specs.Watchers.{IsWatcher, ComesOn, found_behind, watched_by};
 
 use crate::hits::{Hit, Hits};
 use crate::near::Near;

@@ -27,7 +27,7 @@ invariant_of-parts g c =
       rw (c.pass.ensures) ((advances c.args.mode (kept_of c.parts.inside) c.args.pid c.args.count c.get_mut-task.result.now c.index.result.now c.in-Some.space c.with_windows-watch.result.mode c.owners.result.now
           c.with_windows-watch.result.owners.now c.with_windows-watch.result.mem.now c.run_watched-progress.new.watch.mem.now c.run_watched-progress.new.regs c.run_watched-progress.result.done c.run_watched-progress.result.stop
           c.parts.invariant.0 ready strayed c.get_mut-task.ensures.value c.index.ensures c.in-Some.is
-          c.owners.ensures.own c.owners.ensures.writable c.owners.ensures.pages c.with_windows-watch.ensures.mode c.with_windows-watch.ensures.owners c.with_windows-watch.ensures.mem
+          c.owners.ensures.own c.owners.ensures.writable c.owners.ensures.pages c.with_windows-watch.ensures.fresh.mode c.with_windows-watch.ensures.fresh.owners c.with_windows-watch.ensures.fresh.mem
           c.run_watched-progress.ensures.leaves.leaves c.run_watched-progress.ensures.leaves.frozen c.run_watched-progress.ensures.leaves.size).regular),
       c.parts.invariant.1,
       c.parts.invariant.2,
@@ -42,7 +42,7 @@ returns-in-Some-clause-keeps g c =
     (advances c.args.mode (kept_of c.parts.inside) c.args.pid c.args.count c.get_mut-task.result.now c.index.result.now c.in-Some.space c.with_windows-watch.result.mode c.owners.result.now
     c.with_windows-watch.result.owners.now c.with_windows-watch.result.mem.now c.run_watched-progress.new.watch.mem.now c.run_watched-progress.new.regs c.run_watched-progress.result.done c.run_watched-progress.result.stop
     c.parts.invariant.0 ready strayed c.get_mut-task.ensures.value c.index.ensures c.in-Some.is
-    c.owners.ensures.own c.owners.ensures.writable c.owners.ensures.pages c.with_windows-watch.ensures.mode c.with_windows-watch.ensures.owners c.with_windows-watch.ensures.mem
+    c.owners.ensures.own c.owners.ensures.writable c.owners.ensures.pages c.with_windows-watch.ensures.fresh.mode c.with_windows-watch.ensures.fresh.owners c.with_windows-watch.ensures.fresh.mem
     c.run_watched-progress.ensures.leaves.leaves c.run_watched-progress.ensures.leaves.frozen c.run_watched-progress.ensures.leaves.size) in
     rw (← v, c.pass.ensures) (record {
       ready = advanced.ready;
@@ -52,7 +52,7 @@ returns-in-Some-clause-keeps g c =
       regions = refl;
       still = λ none. (none_done c.args.mode (kept_of c.parts.inside) c.args.pid c.args.count c.get_mut-task.result.now c.in-Some.space c.with_windows-watch.result.mode c.owners.result.now
           c.with_windows-watch.result.owners.now c.with_windows-watch.result.mem.now c.run_watched-progress.new.watch.mem.now c.run_watched-progress.new.regs c.run_watched-progress.result.done c.run_watched-progress.result.stop
-          c.get_mut-task.ensures.value c.owners.ensures.own c.owners.ensures.writable c.with_windows-watch.ensures.mode c.with_windows-watch.ensures.owners c.with_windows-watch.ensures.mem
+          c.get_mut-task.ensures.value c.owners.ensures.own c.owners.ensures.writable c.with_windows-watch.ensures.fresh.mode c.with_windows-watch.ensures.fresh.owners c.with_windows-watch.ensures.fresh.mem
           c.run_watched-progress.ensures.leaves.leaves c.run_watched-progress.ensures.leaves.frozen none);
     })
 
@@ -65,13 +65,13 @@ returns-in-Some-clause-own g c own =
     (advances c.args.mode (kept_of c.parts.inside) c.args.pid c.args.count c.get_mut-task.result.now c.index.result.now c.in-Some.space c.with_windows-watch.result.mode c.owners.result.now
     c.with_windows-watch.result.owners.now c.with_windows-watch.result.mem.now c.run_watched-progress.new.watch.mem.now c.run_watched-progress.new.regs c.run_watched-progress.result.done c.run_watched-progress.result.stop
     c.parts.invariant.0 ready strayed c.get_mut-task.ensures.value c.index.ensures c.in-Some.is
-    c.owners.ensures.own c.owners.ensures.writable c.owners.ensures.pages c.with_windows-watch.ensures.mode c.with_windows-watch.ensures.owners c.with_windows-watch.ensures.mem
+    c.owners.ensures.own c.owners.ensures.writable c.owners.ensures.pages c.with_windows-watch.ensures.fresh.mode c.with_windows-watch.ensures.fresh.owners c.with_windows-watch.ensures.fresh.mem
     c.run_watched-progress.ensures.leaves.leaves c.run_watched-progress.ensures.leaves.frozen c.run_watched-progress.ensures.leaves.size) in
     let found = (advance_hits (kind_of_point c.args.watcher.now.point.now) c.args.watcher.now.spans.now c.args.hits.now c.run_watched-progress.new.hits c.args.mode (kept_of c.parts.inside) c.args.pid c.args.count
     c.get_mut-task.result.now c.index.result.now c.in-Some.space c.with_windows-watch.result.mode c.owners.result.now
     c.with_windows-watch.result.owners.now c.with_windows-watch.result.mem.now c.run_watched-progress.new.watch.mem.now c.run_watched-progress.new.regs c.run_watched-progress.result.done c.run_watched-progress.result.stop
     c.run_watched-progress.ensures.hits advanced c.parts.invariant.0 strayed c.get_mut-task.ensures.value c.index.ensures c.in-Some.is
-    c.owners.ensures.own c.owners.ensures.writable c.owners.ensures.pages c.with_windows-watch.ensures.mode c.with_windows-watch.ensures.owners c.with_windows-watch.ensures.mem
+    c.owners.ensures.own c.owners.ensures.writable c.owners.ensures.pages c.with_windows-watch.ensures.fresh.mode c.with_windows-watch.ensures.fresh.owners c.with_windows-watch.ensures.fresh.mem
     c.run_watched-progress.ensures.leaves.leaves c.run_watched-progress.ensures.leaves.frozen c.run_watched-progress.ensures.leaves.size) in
     rw (← v, c.pass.ensures) (record { leads = advanced.leads own; halts = advanced.halts own; hits = found.own own })
 
@@ -84,13 +84,13 @@ returns-in-Some-clause-memory g c =
     (advances c.args.mode (kept_of c.parts.inside) c.args.pid c.args.count c.get_mut-task.result.now c.index.result.now c.in-Some.space c.with_windows-watch.result.mode c.owners.result.now
     c.with_windows-watch.result.owners.now c.with_windows-watch.result.mem.now c.run_watched-progress.new.watch.mem.now c.run_watched-progress.new.regs c.run_watched-progress.result.done c.run_watched-progress.result.stop
     c.parts.invariant.0 ready strayed c.get_mut-task.ensures.value c.index.ensures c.in-Some.is
-    c.owners.ensures.own c.owners.ensures.writable c.owners.ensures.pages c.with_windows-watch.ensures.mode c.with_windows-watch.ensures.owners c.with_windows-watch.ensures.mem
+    c.owners.ensures.own c.owners.ensures.writable c.owners.ensures.pages c.with_windows-watch.ensures.fresh.mode c.with_windows-watch.ensures.fresh.owners c.with_windows-watch.ensures.fresh.mem
     c.run_watched-progress.ensures.leaves.leaves c.run_watched-progress.ensures.leaves.frozen c.run_watched-progress.ensures.leaves.size) in
     let found = (advance_hits (kind_of_point c.args.watcher.now.point.now) c.args.watcher.now.spans.now c.args.hits.now c.run_watched-progress.new.hits c.args.mode (kept_of c.parts.inside) c.args.pid c.args.count
     c.get_mut-task.result.now c.index.result.now c.in-Some.space c.with_windows-watch.result.mode c.owners.result.now
     c.with_windows-watch.result.owners.now c.with_windows-watch.result.mem.now c.run_watched-progress.new.watch.mem.now c.run_watched-progress.new.regs c.run_watched-progress.result.done c.run_watched-progress.result.stop
     c.run_watched-progress.ensures.hits advanced c.parts.invariant.0 strayed c.get_mut-task.ensures.value c.index.ensures c.in-Some.is
-    c.owners.ensures.own c.owners.ensures.writable c.owners.ensures.pages c.with_windows-watch.ensures.mode c.with_windows-watch.ensures.owners c.with_windows-watch.ensures.mem
+    c.owners.ensures.own c.owners.ensures.writable c.owners.ensures.pages c.with_windows-watch.ensures.fresh.mode c.with_windows-watch.ensures.fresh.owners c.with_windows-watch.ensures.fresh.mem
     c.run_watched-progress.ensures.leaves.leaves c.run_watched-progress.ensures.leaves.frozen c.run_watched-progress.ensures.leaves.size) in
     rw (← v, c.pass.ensures) (record { leads = advanced.leads_in; halts = advanced.halts_in; hits = found.memory })
 

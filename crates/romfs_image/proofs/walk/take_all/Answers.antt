@@ -16,10 +16,10 @@ pub loop-init : goal.loop-init
 loop-init c =
     let y = c.args.image.now in
     record {
-      rest = walk_begins y c.name_end.result _ _ c.name_end.ensures.value (omega (arith, c.name_end.ensures.past)) (c.in_ok-go_on.ensures ∙ ap (λ ls. pending c.name_end.result 0 (reverse ls)) c.requires.levels) (ap found c.requires.entries);
-      few = omega (arith, ap length c.requires.entries);
-      names = subst (HasNames c.args.names.now) (sym (ap found c.requires.entries)) c.requires.names;
-      fit = files_none y _ (ap found c.requires.entries);
+      rest = walk_begins y c.name_end.result _ _ c.name_end.ensures.value (omega (arith, c.name_end.ensures.past)) (c.in_ok-go_on.ensures ∙ ap (λ ls. pending c.name_end.result 0 (reverse ls)) c.requires.nothing.levels) (ap found c.requires.nothing.entries);
+      few = omega (arith, ap length c.requires.nothing.entries);
+      names = subst (HasNames c.args.names.now) (sym (ap found c.requires.nothing.entries)) c.requires.nothing.names;
+      fit = files_none y _ (ap found c.requires.nothing.entries);
     }
 
 pub returns-in_err-header-clause-fault : goal.returns-in_err-header-clause-fault

@@ -44,9 +44,6 @@ loop-item-preserved c =
     (brings_more (map item_value c.args.items.now) (vec_texts c.args.files.items) c.loop-item.run (length c.loop-item.yielded) c.loop-item.invariant (item_value c.in-Some.item.now) c.in-Some.file.items
     (opened item_value _ _ _ at.first_below at.first) (opened (λ v. v.items) _ _ _ at.second_below at.second) c.add.new.self c.in_default.ensures)
 
-pub returns-clause-count : goal.returns-clause-count
-returns-clause-count c = c.loop-item.invariant.count
-
 pub returns-clause-brought : goal.returns-clause-brought
 returns-clause-brought c =
     let from = c.into_iter-item-iterator.ensures.into_iter_gives in
@@ -55,15 +52,19 @@ returns-clause-brought c =
     let past = none_left c.args.items.now c.args.files.items all c.loop-item.yielded c.loop-item.item-iterator c.loop-item.yielded_by c.next.result c.next.new.self c.in-None.is c.next.ensures.steps c.requires.files in
     brings_all (map item_value c.args.items.now) (vec_texts c.args.files.items) c.loop-item.run (length c.loop-item.yielded) c.loop-item.invariant (rw (length-map c.args.items.now item_value) past)
 
-pub returns-clause-unchanged : goal.returns-clause-unchanged
-returns-clause-unchanged c =
-    lines_unchanged 0 (map item_value c.args.items.now) (vec_texts c.args.files.items) nothing_brought (brought_value c.loop-item.run) opening_unchanged (returns-clause-brought c)
-
-pub returns-clause-tree : goal.returns-clause-tree
-returns-clause-tree c = lines_tree (map item_value c.args.items.now) (vec_texts c.args.files.items) (brought_value c.loop-item.run) (returns-clause-brought c)
-
-pub returns-clause-closed : goal.returns-clause-closed
-returns-clause-closed c = lines_closed (map item_value c.args.items.now) (vec_texts c.args.files.items) (brought_value c.loop-item.run) (returns-clause-brought c)
+pub returns-clause-begins : goal.returns-clause-begins
+returns-clause-begins c =
+    let items = map item_value c.args.items.now in
+    let files = vec_texts c.args.files.items in
+    let run = brought_value c.loop-item.run in
+    let all = returns-clause-brought c in
+    record {
+      paths = c.loop-item.invariant.paths;
+      count = c.loop-item.invariant.count;
+      unchanged = lines_unchanged 0 items files nothing_brought run opening_unchanged all;
+      tree = lines_tree items files run all;
+      closed = lines_closed items files run all;
+    }
 
 pub returns-clause-names : goal.returns-clause-names
 returns-clause-names c paths = lines_written (map item_value c.args.items.now) paths (vec_texts c.args.files.items) (brought_value c.loop-item.run) (returns-clause-brought c)

@@ -10,13 +10,13 @@ add-requires-clause-shaped c =
     let s = c.self.inside in
     let b : LoneBytes = record { ranges = s.ranges.items; mem = s.mem } in
     let m = maps b c.args.range c.args.brought.now (rw (← c.self.view_is) at c.requires.may) in
-    shaped s.ranges.items s.owners s.mem c.self.invariant c.args.range c.args.brought.now m c.requires.whole (length s.owners) c.self.invariant.pages
+    shaped s.ranges.items s.owners s.mem c.self.invariant c.args.range c.args.brought.now m c.requires.whole (length s.owners) c.self.invariant.tabled.pages
 
 pub add-requires-clause-uses : goal.add-requires-clause-uses
 add-requires-clause-uses c =
     let s = c.self.inside in
     let less : length s.ranges.items < 2 ^ 32 - 1 = (let test = c.if-len.false in let len = c.len.ensures in let ok = s.ranges.ok.0 in omega (arith, test, len, ok)) in
-    few_uses s.owners s.ranges.items c.self.invariant.named less
+    few_uses s.owners s.ranges.items c.self.invariant.tabled.named less
 
 pub clear-requires : goal.clear-requires
 clear-requires c =

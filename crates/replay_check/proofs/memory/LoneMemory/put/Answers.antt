@@ -13,7 +13,7 @@ pub put-requires-clause-inside : goal.put-requires-clause-inside
 put-requires-clause-inside c =
     let s = c.self.inside in
     let fits = c.if-not-may_put.ensures in
-    (16384, c.self.invariant.memory, fits_memory s.owners c.self.invariant.pages (map got_value c.args.got.now) fits.0)
+    (16384, c.self.invariant.memory, fits_memory s.owners c.self.invariant.tabled.pages (map got_value c.args.got.now) fits.0)
 
 pub returns-clause-gives : goal.returns-clause-gives
 returns-clause-gives c =

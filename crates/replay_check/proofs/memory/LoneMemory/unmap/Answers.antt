@@ -1,4 +1,4 @@
-use Rattle.std.proofs.Common.{◌*◌, sym, ap, ◌∙◌}
+use Rattle.std.proofs.Common.{◌*◌, sym, ap, ◌∙◌, arith}
 use Rattle.std.specs.Prelude.{position}
 use Rattle.mmap_rules.proofs.Hits.{first_passes}
 use Rattle.flat_loader.specs.Alone.{is_exact, can_cut}
@@ -26,10 +26,16 @@ returns-in_default-place_of_cut c =
     let s = c.self.inside in
     rw (← c.self.view_is) (refuses _ _ (nothing_leaves s.ranges.items s.owners s.mem c.self.invariant c.args.addr c.args.len c.pages_for-pages.result c.if-len-eq0.false c.if-addr-ne0.false c.pages_for-pages.ensures (ap (position (is_exact c.args.addr (4096 * c.pages_for-pages.result))) (sym c.deref.ensures.value) ∙ sym c.place_of_exact.ensures ∙ c.in_default.is) (ap (position (can_cut c.args.addr (4096 * c.pages_for-pages.result))) (sym c.deref-2.ensures.value) ∙ sym c.place_of_cut.ensures ∙ c.in_default-place_of_cut.is)))
 
-pub cut_range-requires-clause-can : goal.cut_range-requires-clause-can
-cut_range-requires-clause-can c = λ r there.
+pub cut_range-requires-clause-cuts : goal.cut_range-requires-clause-cuts
+cut_range-requires-clause-cuts c =
     let s = c.self.inside in
-    (first_passes (can_cut c.args.addr (4096 * c.pages_for-pages.result)) s.ranges.items c.in-Some-place_of_cut.place (ap (position (can_cut c.args.addr (4096 * c.pages_for-pages.result))) (sym c.deref-2.ensures.value) ∙ sym c.place_of_cut.ensures ∙ c.in-Some-place_of_cut.is)).passes r there
+    let first = first_passes (can_cut c.args.addr (4096 * c.pages_for-pages.result)) s.ranges.items c.in-Some-place_of_cut.place (ap (position (can_cut c.args.addr (4096 * c.pages_for-pages.result))) (sym c.deref-2.ensures.value) ∙ sym c.place_of_cut.ensures ∙ c.in-Some-place_of_cut.is) in
+    record {
+      begins = c.if-addr-ne0.false;
+      some = (let asked = c.if-len-eq0.false in let count = c.pages_for-pages.ensures in omega (arith, asked, count));
+      place = first.within;
+      can = first.passes;
+    }
 
 pub invariant_of-self-2 : goal.invariant_of-self-2
 invariant_of-self-2 c =
@@ -37,7 +43,7 @@ invariant_of-self-2 c =
     let place = c.in-Some-place_of_cut.place in
     let t = first_there (can_cut c.args.addr (4096 * c.pages_for-pages.result)) s.ranges.items place (ap (position (can_cut c.args.addr (4096 * c.pages_for-pages.result))) (sym c.deref-2.ensures.value) ∙ sym c.place_of_cut.ensures ∙ c.in-Some-place_of_cut.is) in
     lone_left s.ranges.items s.owners s.mem c.self.invariant c.cut_range.new.owners c.cut_range.new.ranges.items _ place t.item t.there (cut_begins s.ranges.items s.owners s.mem c.self.invariant c.args.addr (4096 * c.pages_for-pages.result) place t.item t.there t.passes)
-    (c.in_ok-cut_range.ensures.ranges t.item t.there) c.cut_range.ensures.pages c.cut_range.ensures.named c.cut_range.ensures.own
+    (c.in_ok-cut_range.ensures.ranges t.item t.there) c.cut_range.ensures.tabled
 
 pub returns : goal.returns
 returns c =
