@@ -1,12 +1,11 @@
 -- The last spot below a number, and which symbol it is.
-use Rattle.std.proofs.Common.{◌≡◌, ℕ, zero, suc, ◌+◌, ◌-◌, ◌^◌, ◌<◌, ◌≤◌, ◌==◌, inl, inr, nat_lt, nat_le, Bool, true, false, not, ◌&&◌, List, [], ◌∷◌, ◌++◌, ◌⊎◌, flat_map, length, Option, Some, None, if◌then◌else◌, slice_index_or, sym, ◌∙◌, ap, subst, refl, arith, append-nil, append_assoc}
-use Rattle.std.specs.Option.{option_map, option_or}
-use Rattle.std.specs.List.{range_with_len, All, AllByRecursion as Each}
+use Rattle.std.proofs.Common.{◌≡◌, ℕ, zero, suc, ◌+◌, ◌^◌, ◌<◌, ◌≤◌, ◌==◌, inl, inr, nat_lt, nat_le, Bool, true, false, not, ◌&&◌, List, [], ◌∷◌, ◌++◌, ◌⊎◌, flat_map, length, Option, Some, None, if◌then◌else◌, slice_index_or, sym, ◌∙◌, ap, subst, refl, arith, append-nil, append_assoc}
+use Rattle.std.specs.Option.{option_or}
+use Rattle.std.specs.List.{range_with_len, AllByRecursion as Each}
 use Rattle.std.specs.List.Sorted.{IsNonDecreasingBy, IsPermutation}
-use Rattle.std.proofs.lemmas.Bool.{cases_Bool, and_parts, and_from, not-true, not-false, cases_lt, cases_eq, eqb-true, eqb-false, eq-eqb, ne_eqb, ltb-true, lt-ltb, le-ltb, leb-true, le-leb}
+use Rattle.std.proofs.lemmas.Bool.{cases_Bool, and_parts, and_from, not-true, cases_lt, cases_eq, eqb-true, eq-eqb, ne_eqb, ltb-true, lt-ltb, le-ltb, leb-true, le-leb}
 use Rattle.std.proofs.lemmas.List.Sorted.{All-permutation, IsPermutation-sym}
 use Rattle.std.proofs.lemmas.List.Elements.{All-from_recursion, recursion_from_All}
-use Rattle.byte_words.specs.Search.{any_below}
 use Rattle.byte_words.proofs.Searches.{any_below_none, none_below}
 use Rattle.elf32_reader.specs.Accepted.{IsAccepted}
 use Rattle.elf32_reader.specs.Symbols.{symbol_count, symbol, name_of}
@@ -14,7 +13,7 @@ use Rattle.elf32_reader.proofs.Facts.{symbol_fits_words, section_fits_words}
 use Rattle.psabi_relocs.specs.declared.around.Spot.{Spot}
 use Rattle.psabi_relocs.specs.Search.{first_below}
 use Rattle.psabi_relocs.specs.Around.{is_source, kind_of, is_told, is_below, is_nearer, is_nearest, reaches, if_reaches, around}
-use Rattle.psabi_relocs.specs.Spots.{place_order, order_of, spot, spot_if_told, last_under, index_at, found, IsAroundOf}
+use Rattle.psabi_relocs.specs.Spots.{place_order, order_of, spot, spot_if_told, last_under, index_at, found}
 use Rattle.psabi_relocs.proofs.IndexSearches.{first_below_none, first_below_only, first_below_passes}
 use Rattle.psabi_relocs.proofs.SpotOrder.{FitsSpot, is_nearer_spot, under_place, section_under, value_under, section_apart, nearer_above, above_nearer, same_index}
 

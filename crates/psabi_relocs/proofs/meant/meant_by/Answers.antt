@@ -1,4 +1,4 @@
-use Rattle.std.proofs.Common.{◌≡◌, ◌∙◌, sym, arith}
+use Rattle.std.proofs.Common.{◌∙◌, sym, arith}
 use Rattle.psabi_relocs.proofs.SpotLists.{around_in_table}
 use Rattle.psabi_relocs.proofs.meant.meant_by.Goals as goal
 

@@ -1,4 +1,3 @@
-use Rattle.std.proofs.Common.{rules}
 use Rattle.psabi_relocs.proofs.around.Around.find.Goals as goal
 
 pub last_under-requires : goal.last_under-requires
