@@ -1,5 +1,6 @@
 -- Names as they are written, computed.
 use Rattle.std.proofs.Common.{◌≡◌, ◌++◌, refl, codes, replicate}
+use Rattle.std.specs.Fmt.{digits}
 use Rattle.hex.specs.Hex.{encode_with}
 use Rattle.fault_texts.specs.Names.{shown, name_or}
 
@@ -21,4 +22,5 @@ unfolding shown
 long_is_cut = refl
 
 missing_is_told : name_or 0x40 7 (codes "") ≡ codes "@7"
+unfolding digits
 missing_is_told = refl
