@@ -1,7 +1,7 @@
 -- The start of a name tells what is shown of it.
-use Rattle.std.proofs.Common.{◌≡◌, ℕ, zero, suc, ◌+◌, ◌<◌, ◌≤◌, nat_lt, inl, inr, List, [], ◌∷◌, ◌++◌, length, take, min, refl, sym, ap, ◌∙◌, arith, length-take}
+use Rattle.std.proofs.Common.{◌≡◌, ℕ, zero, suc, nat_lt, inl, inr, List, [], ◌∷◌, length, take, refl, sym, ap, ◌∙◌, arith, length-take}
 use Rattle.std.proofs.lemmas.Bool.{cases_lt, lt-ltb, le-ltb}
-use Rattle.fault_texts.specs.Names.{bytes_text, most_shown, dots, shown, name_or}
+use Rattle.fault_texts.specs.Names.{shown, name_or}
 
 take_start : (n : ℕ) (name : List ℕ) → take n (take (suc n) name) ≡ take n name
 take_start n [] = refl

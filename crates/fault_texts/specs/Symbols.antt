@@ -1,6 +1,6 @@
 -- Sections and symbols by name. System V ABI, ELF32, "Sections" and "Symbol Table"; the stand-ins are those of `objdump -t`, or this
 -- project's own.
-use Rattle.std.specs.Prelude.{ℕ, ◌%◌, ◌==◌, nat_lt, Bool, not, ◌&&◌, List, [], ◌∷◌, ◌++◌, codes, decimal, if◌then◌else◌}
+use Rattle.std.specs.Prelude.{ℕ, ◌%◌, ◌==◌, nat_lt, Bool, not, ◌&&◌, List, ◌++◌, codes, decimal, if◌then◌else◌}
 use Rattle.elf32_reader.specs.declared.symbol.Symbol.{Symbol}
 use Rattle.elf32_reader.specs.Header.{count_of}
 use Rattle.elf32_reader.specs.Names.{section_name}

@@ -104,12 +104,7 @@ pub fn push_shown(text: &mut Vec<u8>, name: &[u8]) -> Result<(), AllocError>
 }
 
 /// A name by its first `NAME_LIMIT` bytes, or a sign and an index where it has none.
-pub fn push_name_or(
-    text: &mut Vec<u8>,
-    sign: u8,
-    index: u32,
-    name: &[u8],
-) -> Result<(), AllocError>
+pub fn push_name_or(text: &mut Vec<u8>, sign: u8, index: u32, name: &[u8]) -> Result<(), AllocError>
     ensures { IfOk result (λ _. text.new.items ≡ text.old.items ++ name_or sign index name.now) }
 {
     if name.is_empty() {

@@ -25,12 +25,7 @@ pub fn push_section(text: &mut Vec<u8>, elf: &Elf<'_>, index: u32) -> Result<(),
     requires { index < count_of elf.now }
     ensures { IfOk result (λ _. text.new.items ≡ text.old.items ++ section_text elf.now index) }
 {
-    push_name_or(
-        text,
-        b'#',
-        index,
-        elf.section_name_start(index, NAME_LIMIT),
-    )
+    push_name_or(text, b'#', index, elf.section_name_start(index, NAME_LIMIT))
 }
 
 /// Whether an index is that of a section, and not 0.
@@ -65,12 +60,7 @@ pub fn push_symbol(
     if is_of_section(elf, &symbol) {
         push_section(text, elf, u32::from(symbol.shndx))
     } else {
-        push_name_or(
-            text,
-            b'@',
-            index,
-            elf.name_start(table, index, NAME_LIMIT),
-        )
+        push_name_or(text, b'@', index, elf.name_start(table, index, NAME_LIMIT))
     }
 }
 

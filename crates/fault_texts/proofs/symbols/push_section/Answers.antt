@@ -1,6 +1,4 @@
 -- The start of the name tells it.
-use Rattle.std.proofs.Common.{◌≡◌, ◌++◌, List, ℕ, ap, subst}
-use Rattle.std.specs.Prelude.{IfOk}
 use Rattle.elf32_reader.specs.Names.{section_name}
 use Rattle.fault_texts.specs.Symbols.{section_text}
 use Rattle.fault_texts.proofs.Starts.{name_or_start}
