@@ -8,6 +8,8 @@
 -- Fields         the bytes of a field that isn't outside
 -- Congruence   numbers that are the same modulo another
 -- Differences  a group's number when the image moves
+-- SpotOrder    what the numbers of spots say
+-- SpotLists    the last spot below a number, and which symbol it is
 -- Samples      two groups, computed
 pub mod StoredWord
 pub mod IndexSearches
@@ -19,4 +21,6 @@ pub mod Partners
 pub mod Fields
 pub mod Congruence
 pub mod Differences
+pub mod SpotOrder
+pub mod SpotLists
 pub mod Samples

@@ -14,6 +14,8 @@
 -- Sums: the sums of all widths at one place, for the index alone.
 -- Firsts: what was put down first at each address, for the index alone.
 -- Index: what is known of the indexes.
+-- Around: which symbol stands around a place, and which one a relocation means.
+-- Spots: the symbols of a table by section and value, for the index alone.
 -- Judged: what the judgement of an entry stands on.
 -- Difference: what a group's entries compute on their number.
 -- Laws: when that number is the same at every base.
@@ -33,6 +35,8 @@ pub mod Effect
 pub mod Sums
 pub mod Firsts
 pub mod Index
+pub mod Around
+pub mod Spots
 pub mod Judged
 pub mod Difference
 pub mod Laws

@@ -4,6 +4,7 @@
 //! What may not stand here: the flat format, an order of faults between entries, or any output.
 #![tactic(auto)]
 
+mod around;
 mod bytes;
 mod class;
 mod effect;
@@ -17,6 +18,7 @@ mod judgement;
 mod kept;
 mod laws;
 mod marks;
+mod meant;
 mod names;
 mod pairs;
 mod reloc;
@@ -27,11 +29,13 @@ mod spans;
 mod stored;
 mod types;
 
+pub use around::Around;
 pub use class::{Class, class_of};
 pub use effect::Effect;
 pub use fault::RelocFault;
 pub use judgement::{Checked, check, spans_at};
 pub use laws::differences_law;
+pub use meant::{Meant, meant_by};
 pub use names::kind_name;
 pub use pairs::Pairs;
 pub use reloc::{Reloc, reloc_at};

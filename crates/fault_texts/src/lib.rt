@@ -1,0 +1,10 @@
+//! What a user is told of the faults of an ELF file: sections and symbols by name, a line for each fault, and counts of them.
+//!
+//! What may stand here: texts of such a file and its faults. What may not: which faults it has, a host, or any command.
+#![tactic(auto)]
+
+mod names;
+mod symbols;
+
+pub use names::push_shown;
+pub use symbols::{push_home, push_section, push_symbol};
