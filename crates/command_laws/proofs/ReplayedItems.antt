@@ -1,16 +1,13 @@
 -- A replay says yes to what a run stored, by the laws of both calls.
-use Rattle.std.proofs.Common.{◌≡◌, ℕ, List, cond, Option, Some, refl, sym, ap, subst, ◌∙◌, inl, inr}
+use Rattle.std.proofs.Common.{◌≡◌, ℕ, List, cond, Some, sym, ap, subst, ◌∙◌, inl, inr}
 use Rattle.std.specs.FinMap.{get, insert, get-insert}
 use Rattle.std.specs.Cmp.{eq_by_cmp_equiv}
 use Rattle.std.specs.Cmp.Lexicographic.{nat_list_cmp_total}
 use Rattle.std.proofs.lemmas.Option.{same_Some}
 use Rattle.host_io.specs.Host.{Files, Told}
-use Rattle.call_log.specs.Notes.{LoadEntry}
-use Rattle.items_text.specs.Items.{ItemsValue, AreHeld}
 use Rattle.items_text.specs.Lines.{text_of}
 use Rattle.machine_world.specs.World.{Program}
 use Rattle.replay_check.specs.declared.verdict.Verdict.TheVariants.{Yes}
-use Rattle.replay_laws.specs.Laws.{load_of}
 use Rattle.file_commands.specs.declared.command.Format.{Format}
 use Rattle.file_commands.specs.Arguments.{replay}
 use Rattle.file_commands.specs.Replay.{verdict_ending}
@@ -18,9 +15,7 @@ use Rattle.suite_top.specs.Call.{Call}
 use Rattle.suite_top.specs.Kept.{text_or_none}
 use Rattle.suite_top.specs.StatusLaws.{IsAnswer}
 use Rattle.command_laws.specs.ReplayLaws.{IsJudged}
-use Rattle.command_laws.specs.RunLaws.{Opens}
 use Rattle.command_laws.specs.ItemsLaws.{stay_text}
-use Rattle.command_laws.specs.AcceptedItems.{kept_items}
 use Rattle.command_laws.specs.ReplayedItems.{ReplaysStored, SaysYes, StoredItemsReplay}
 use Rattle.command_laws.proofs.OneFileLaws.{outcome_is, shows}
 use Rattle.command_laws.proofs.ReplayLaws.{behind_both, tells_where_judged, replay_completes}
