@@ -39,23 +39,23 @@ stored_items_replay c t t_after manifest options kept is stop =
     let (o, stores) = items_are_stored c t t_after manifest options kept is stop in (
       o,
       λ load p items noted there tells held r u u_after kind file replays calm.
-      let accepts = runs_accept_items c.inputs manifest kept.number options.kind o in
-      let text_is : stay_text o ≡ text_of items = sym (texts_are_of_stays c.inputs manifest kept.number options.kind o) ∙ ap text_or_none tells in
-      let found : get t_after.files kept.file ≡ Some (text_of items) =
-      ap (λ (files : Files). get files kept.file) stores ∙ got_back t.files kept.file (stay_text o) ∙ ap Some text_is in
-      let same : replays.text ≡ text_of items = same_Some _ _ (sym replays.as_left ∙ found) in
-      let judged : IsJudged u kind file kept.file Yes = record {
-        program = replays.program;
-        text = replays.text;
-        there = replays.there;
-        values = items;
-        reads = record { held = held; spelled = accepts.spelled items tells; text_is = same };
-        original = replays.original;
-        originates = replays.originates;
-        replays = accepts.accepted load p replays.original items noted there replays.of_program tells;
-      } in
-      elim (replay_completes r u u_after kind file kept.file replays.replay Yes judged calm) [
-        | inl memory ↦ inl memory
-        | inr done ↦ inr (says_yes r u u_after kind file kept.file p t_after.files replays judged done)
-      ],
+          let accepts = runs_accept_items c.inputs manifest kept.number options.kind o in
+          let text_is : stay_text o ≡ text_of items = sym (texts_are_of_stays c.inputs manifest kept.number options.kind o) ∙ ap text_or_none tells in
+          let found : get t_after.files kept.file ≡ Some (text_of items) =
+          ap (λ (files : Files). get files kept.file) stores ∙ got_back t.files kept.file (stay_text o) ∙ ap Some text_is in
+          let same : replays.text ≡ text_of items = same_Some _ _ (sym replays.as_left ∙ found) in
+          let judged : IsJudged u kind file kept.file Yes = record {
+            program = replays.program;
+            text = replays.text;
+            there = replays.there;
+            values = items;
+            reads = record { held = held; spelled = accepts.spelled items tells; text_is = same };
+            original = replays.original;
+            originates = replays.originates;
+            replays = accepts.accepted load p replays.original items noted there replays.of_program tells;
+          } in
+          elim (replay_completes r u u_after kind file kept.file replays.replay Yes judged calm) [
+            | inl memory ↦ inl memory
+            | inr done ↦ inr (says_yes r u u_after kind file kept.file p t_after.files replays judged done)
+          ],
     )
