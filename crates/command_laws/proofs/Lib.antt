@@ -6,7 +6,7 @@
 -- Headers, GoOn, GoOnTexts, HitsAlike, SamePrograms, BothModes: a run that goes on, beside the same run without it.
 -- Headline: what a call of `run` did. BothRuns: two runs of one manifest. TraceLaws, WatchLaws: the laws of `trace` and of `--watch`.
 -- KeptWorlds, KeptBoots, ItemsLaws: what a run records of one space, that it boots as without, and the items that it stores.
--- AcceptedItems: what a replay says of the items that a run keeps.
+-- AcceptedItems, ReplayedItems: what a replay says of the items that a run keeps, and of the file that it stored.
 -- DemoFaults, DemoLaws: the programs of a demo, and the laws of the command.
 -- DemoSamples, RunSamples, HitSamples: the definitions on two programs of a demo, on small manifests, and on a load and a store that are watched.
 -- BootedSamples, WaitingSamples: what is said of a run from its opening world on, computed on one whose program exits and on one whose program waits.
@@ -33,6 +33,7 @@ mod KeptWorlds
 mod KeptBoots
 mod ItemsLaws
 mod AcceptedItems
+mod ReplayedItems
 mod DemoFaults
 mod DemoLaws
 mod DemoSamples

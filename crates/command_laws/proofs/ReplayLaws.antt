@@ -57,7 +57,7 @@ judges (elf_file e) i v is = by (fault e) (nat_lt i.stack 16 || nat_lt 1048576 i
 -- ---- the outcome, by what is there
 
 -- behind both loads
-abbrev behind_both : (file items : List ℕ) → Ending → Outcome
+abbrev pub behind_both : (file items : List ℕ) → Ending → Outcome
 behind_both file items ending = after (load file) (after (load items) (at_once ending))
 
 -- a load found nothing; or something is refused, behind one load or both; or there is a verdict
@@ -196,7 +196,7 @@ ends_with format.Elf program i o v is replays = ap (replayed_ending i) (ap (λ (
 ends_with format.Flat program i o v is replays =
     ap (flat_ending program i) is.0 ∙ ap (replayed_ending i) (ap (λ (x : OriginalFile). replayed x i) (sym is.1) ∙ replays)
 
-tells_where_judged : (t : Told) (kind : Format) (file items : List ℕ) (v : Verdict) (j : IsJudged t kind file items v)
+pub tells_where_judged : (t : Told) (kind : Format) (file items : List ℕ) (v : Verdict) (j : IsJudged t kind file items v)
     → replay_outcome kind file items (inputs_in t.files) ≡ behind_both file items (verdict_ending j.values v)
 unfolding replay_outcome replay_ending
 tells_where_judged t kind file items v j =

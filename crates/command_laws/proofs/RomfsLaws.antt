@@ -1,14 +1,20 @@
 -- What a call of `romfs` does.
-use Rattle.std.proofs.Common.{◌≡◌, ℕ, ◌≤◌, Bool, true, false, cond, List, [], ◌∷◌, ◌++◌, map, filter, length, nat_lt, None, Result, Ok, Err, refl, sym, ap, subst, ◌∙◌, arith, inl, inr}
+use Rattle.std.proofs.Common.{◌≡◌, ℕ, ◌+◌, ◌≤◌, Bool, true, false, cond, List, [], ◌∷◌, ◌++◌, map, filter, length, nat_lt, Option, Some, None, is_some, Result, Ok, Err, refl, sym, ap, subst, ◌∙◌, arith, inl, inr}
 use Rattle.std.specs.Prelude.{◌⊎◌}
 use Rattle.std.specs.FinMap.{get, insert}
 use Rattle.std.proofs.lemmas.Bool.Decides.{nat_tests}
+use Rattle.std.proofs.lemmas.List.Sums.{sum_by-cons}
 use Rattle.host_io.specs.Host.{Files, Told}
 use Rattle.romfs_image.specs.Text.{most_bytes, rom_text}
+use Rattle.mem_files.specs.Inodes.{Inode, Inodes, most_nodes, node_count}
+use Rattle.mem_files.specs.Trees.{linked_in}
 use Rattle.rom_tree.specs.Nodes.{tree_nodes}
+use Rattle.rom_tree.specs.Laws.{named_count}
+use Rattle.rom_tree.proofs.Sizes.{whole}
 use Rattle.manifest_text.specs.Values.{Item, Manifest}
 use Rattle.manifest_text.specs.Manifest.{Fault, tree_manifest_of}
 use Rattle.run_setup.specs.Brought.{Brought, FaultAt, nothing_brought, all_brought}
+use Rattle.run_setup.proofs.Unchanged.{lines_tree, lines_few}
 use Rattle.file_commands.specs.declared.status.Status.TheVariants.{Done, HostRead, Refused}
 use Rattle.file_commands.specs.Texts.Images.{too_large_tail, image_line}
 use Rattle.file_commands.specs.Ending.{Ending, refused_ending}
@@ -79,6 +85,34 @@ makes_where_it_stops t name image stop =
     let (brought, brings, small) = ok_tree image (all_brought m.items files nothing_brought) makes_on in
     record { text = text; found = found; fits = fits; manifest = m; reads = reads; files = files; there = there; brought = brought; brings = brings; small = small }
 
+-- ---- the whole tree
+
+abbrev is_there : Option Inode → ℕ
+is_there n = cond (is_some n) 1 0
+
+abbrev is_linked : Option Inode → ℕ
+is_linked n = cond (linked_in n) 1 0
+
+one_few : (n : Option Inode) → is_linked n ≤ is_there n
+one_few None = omega arith
+one_few (Some n) = by_test n.linked
+  where
+    by_test : (b : Bool) → cond b 1 0 ≤ 1
+    by_test true = omega arith
+    by_test false = omega arith
+
+-- a node that a folder names is there
+named_few : (ns : Inodes) → named_count ns ≤ node_count ns
+named_few [] = omega arith
+named_few (n ∷ ns) = omega (arith, sum_by-cons is_linked n ns, sum_by-cons is_there n ns, one_few n, named_few ns)
+
+-- what lines bring in is a tree with no more nodes than the walk takes steps
+is_whole : (t : Files) (name : List ℕ) (o : Makes t name) → length (nodes_in o) + 1 ≡ named_count o.brought.tree
+unfolding tree_nodes
+is_whole t name o =
+    let few = lines_few o.manifest.items o.files o.brought o.brings in
+    whole o.brought.tree (lines_tree o.manifest.items o.files o.brought o.brings) most_nodes (omega (arith, few, named_few o.brought.tree))
+
 -- ---- what is stored
 
 stored_last : (items : List Item) (t : Told) (name bytes : List ℕ) → (after_answers t (loads_of items ++ store name bytes ∷ [])).files ≡ insert t.files name bytes
@@ -100,6 +134,7 @@ romfs_is_done c t t_after manifest image is status =
     let s = shows c t t_after is.files (made_outcome image o) (at ∙ made_where_it_can t.files manifest image o) answer in
     record {
       makes = o;
+      whole = is_whole t.files manifest o;
       files = ap (λ (u : Told). u.files) s.told ∙ stored_last o.manifest.items (after_answer t (load manifest)) image (rom_text (nodes_in o));
       asked = ap (λ (u : Told). u.asked) s.told ∙ asked_after (made_outcome image o).requests t;
       out = s.out;

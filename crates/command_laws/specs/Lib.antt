@@ -13,6 +13,7 @@
 -- WatchLaws     a run with `--watch` beside the same run without it
 -- ItemsLaws     a run with `--items`: which items it stores
 -- AcceptedItems what a replay says of these
+-- ReplayedItems what a call of `replay` does over the file that was stored
 -- DemoLaws      the command `demo`, and that its programs have no fault
 pub mod OneFileLaws
 pub mod ConvertLaws
@@ -30,4 +31,5 @@ pub mod TraceLaws
 pub mod WatchLaws
 pub mod ItemsLaws
 pub mod AcceptedItems
+pub mod ReplayedItems
 pub mod DemoLaws

@@ -1,10 +1,11 @@
 -- What a call of `romfs` does, over a host that tells its files.
-use Rattle.std.specs.Prelude.{◌≡◌, ◌⊎◌, ◌++◌, ℕ, ◌≤◌, List, [], ◌∷◌, map, filter, length, Some, Ok}
+use Rattle.std.specs.Prelude.{◌≡◌, ◌⊎◌, ◌++◌, ℕ, ◌+◌, ◌≤◌, List, [], ◌∷◌, map, filter, length, Some, Ok}
 use Rattle.std.specs.FinMap.{get, insert}
 use Rattle.host_io.specs.Host.{Files, Told}
 use Rattle.romfs_image.specs.Nodes.{RomValue}
 use Rattle.romfs_image.specs.Text.{most_bytes, rom_text}
 use Rattle.rom_tree.specs.Nodes.{tree_nodes}
+use Rattle.rom_tree.specs.Laws.{named_count}
 use Rattle.manifest_text.specs.Values.{Manifest}
 use Rattle.manifest_text.specs.Manifest.{tree_manifest_of}
 use Rattle.run_setup.specs.Brought.{Brought, nothing_brought, all_brought}
@@ -49,9 +50,11 @@ made_outcome {name = name} image o = record {
   ending = done_ending (image_line (length (nodes_in o)) (length (rom_text (nodes_in o))));
 }
 
--- IMG is the image of the manifest's tree, no other file changed, and `out` took the line
+-- IMG is the image of the manifest's tree, which has as many nodes as a folder names in the tree, but the root; no other file changed, and
+-- `out` took the line
 pub record IsMade (c : Call) (t t_after : Told) (manifest image : List ℕ) : Type 0 where
   pub makes : Makes t.files manifest
+  pub whole : length (nodes_in makes) + 1 ≡ named_count makes.brought.tree
   pub files : t_after.files ≡ insert t.files image (rom_text (nodes_in makes))
   pub asked : t_after.asked ≡ t.asked ++ map name_of (made_outcome image makes).requests
   pub out : TookAll c.out c.out_after (image_line (length (nodes_in makes)) (length (rom_text (nodes_in makes))))

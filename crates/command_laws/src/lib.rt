@@ -12,7 +12,7 @@ mod trace_laws;
 
 pub use demo_laws::{demo_law, demo_turns_law};
 pub use file_laws::{check_law, convert_law, list_law, replay_law, romfs_law, unromfs_law};
-pub use items_laws::accepted_law;
+pub use items_laws::{accepted_law, replayed_law};
 pub use run_laws::{
     alone_law, counts_law, go_on_law, headline_law, items_law, originals_law, regular_worlds_law,
     run_law, waits_law, watch_law,

@@ -1,10 +1,10 @@
--- What new folders and files keep, all lines keep: files are unchanged, the nodes are a tree, and nothing is open.
-use Rattle.std.proofs.Common.{◌≡◌, ℕ, zero, suc, ◌+◌, Bool, true, false, List, [], ◌∷◌, Some, None, Result, Ok, Err, refl, sym, ap, subst, arith}
+-- What new folders and files keep, all lines keep: files are unchanged, the nodes are a tree and not too many, and nothing is open.
+use Rattle.std.proofs.Common.{◌≡◌, ℕ, zero, suc, ◌+◌, ◌≤◌, Bool, true, false, List, [], ◌∷◌, Some, None, Result, Ok, Err, refl, sym, ap, subst, arith}
 use Rattle.std.specs.Prelude.{Option, length}
 use Rattle.std.specs.List.{AllByRecursion}
 use Rattle.std.proofs.lemmas.Option.{same_Some}
 use Rattle.call_log.specs.declared.errno.Errno.{Errno}
-use Rattle.mem_files.specs.Inodes.{Inode, Inodes, opening}
+use Rattle.mem_files.specs.Inodes.{Inode, Inodes, opening, most_nodes, node_count}
 use Rattle.mem_files.specs.Changes.{with_file, with_folder}
 use Rattle.mem_files.specs.Trees.{IsTree, AreNamedAndClosed}
 use Rattle.mem_files.proofs.TreesKept.{changes_keep_tree}
@@ -27,6 +27,7 @@ use Rattle.manifest_text.specs.declared.manifest.ItemKind.{ItemKind}
 use Rattle.manifest_text.specs.declared.manifest.ItemKind.TheVariants.{Elf, Flat, File, Dir, Stdin, Root}
 use Rattle.manifest_text.specs.Values.{Item}
 use Rattle.run_setup.specs.declared.fault.LineFault.{LineFault}
+use Rattle.run_setup.proofs.Counted.{folder_counts, file_counts}
 use Rattle.run_setup.specs.Brought.{Brought, Made, elf_made_of, flat_made_of, or_errno, program_brought, with_tree, file_brought, folder_brought, flat_made, rom_file_brought, node_brought, then_more, nodes_brought, image_brought, brought_by, FaultAt, nothing_brought, then_brought, all_brought}
 
 -- no node of the empty tree was changed
@@ -140,6 +141,12 @@ lines_tree items loaded now is =
     lines_keep IsTree AnyPath (λ ns new path q made tree. changes_keep_tree.folder path ns new tree made)
     (λ ns new path bytes program q made tree. changes_keep_tree.file path bytes program ns new tree made) (λ y nodes read number. tt)
     items (any_paths items) loaded nothing_brought now changes_keep_tree.begins is
+
+pub lines_few : (items : List Item) (loaded : List (List ℕ)) (now : Brought) → all_brought items loaded nothing_brought ≡ Ok now → node_count now.tree ≤ most_nodes
+lines_few items loaded now is =
+    lines_keep (λ ns. node_count ns ≤ most_nodes) AnyPath (λ ns new path q made few. (folder_counts ns path new made).1)
+    (λ ns new path bytes program q made few. (file_counts ns path bytes program new made).1) (λ y nodes read number. tt)
+    items (any_paths items) loaded nothing_brought now (omega arith) is
 
 pub lines_closed : (items : List Item) (loaded : List (List ℕ)) (now : Brought) → all_brought items loaded nothing_brought ≡ Ok now
     → AreNamedAndClosed now.tree
