@@ -15,16 +15,18 @@ use Rattle.file_commands.specs.declared.status.Status.{Status}
 use Rattle.file_commands.specs.declared.status.Status.TheVariants.{Done, Usage, HostRead, Refused, Stray, OutOfQuanta, LogFull, SinkWrite, Memory, HostWrite, Stuck, Refuted}
 use Rattle.file_commands.specs.Arguments.{RunOptions, run, command_of}
 use Rattle.file_commands.specs.Texts.{refused_line}
+use Rattle.file_commands.specs.Ending.{Ending}
 use Rattle.file_commands.specs.Outcome.{load, store, Inputs}
 use Rattle.file_commands.specs.Observed.{Observed, ObservedSink}
 use Rattle.file_commands.specs.HostCourse.{inputs_in}
 use Rattle.file_commands.specs.Delivery.{sink_failed, sink_memory, TookAll}
 use Rattle.suite_top.specs.Telling.{Report}
 use Rattle.suite_top.specs.Kept.{keep_of}
+use Rattle.suite_top.specs.Run.{mode_ending}
 use Rattle.suite_top.specs.Call.{Call, MeetsResult}
 use Rattle.suite_top.specs.StatusLaws.{IsPerformed, FilesRemain, FailsAt, IsCut, IsMemoryTold}
 use Rattle.command_laws.specs.Booted.{DoesAsAlone, EndsAsAlone}
-use Rattle.command_laws.specs.RunLaws.{Opens, opened_outcome}
+use Rattle.command_laws.specs.RunLaws.{Opens}
 use Rattle.command_laws.specs.FirstFault.{FirstFault}
 use Rattle.command_laws.specs.Beside.{halting, going_on, GoesOnWell}
 use Rattle.command_laws.specs.WatchLaws.{world_behind}
@@ -66,11 +68,16 @@ abbrev pub ForItsFiles : Option Told → (Inputs → Type 0) → Type 0
 ForItsFiles (Some t) says = says (inputs_in t.files)
 ForItsFiles None says = (inputs : Inputs) × says inputs
 
--- ---- the console
+-- ---- the turns, and the console
 
 module _ {inputs : Inputs} {name : List ℕ} {keep : ℕ} {kind : Kind} (o : Opens inputs name keep kind) where
   abbrev pub quanta_of : List Quantum
   quanta_of = repeated o.manifest.repeat o.manifest.quanta
+
+  -- what the turns give, or, of a run that goes on, those over one memory: its report has the notes, the hits that are asked for, the dumps of
+  -- the manifest, and why the run stopped
+  abbrev pub ending_by : RunOptions → Ending
+  ending_by options = mode_ending (Report options) options.mode quanta_of o.manifest.watches o.manifest.dumps o.booted.brought.headers o.booted.world
 
   -- the calls that the events of the turns made, one after the other
   abbrev pub calls_by : Mode → List CallEntry
@@ -96,11 +103,11 @@ module _ {inputs : Inputs} {name : List ℕ} {keep : ℕ} {kind : Kind} (o : Ope
 pub record RanAsAlone (c : Call) (manifest : List ℕ) (options : RunOptions) : Type 0 where
   pub opens : Opens c.inputs manifest (keep_of options.kept) options.kind
   pub performed : IsPerformed c
-  pub status : c.status ≡ (opened_outcome (Report options) opens).ending.status
+  pub status : c.status ≡ (ending_by opens options).status
   pub noted : kept_calls_of (world_behind options.mode opens).notes ≡ calls_by opens options.mode
   pub whole : AreWholeBy opens options.mode
   pub out : TookAll c.out c.out_after (printed_by opens options.mode)
-  pub report : TookAll c.report c.report_after (opened_outcome (Report options) opens).ending.report
+  pub report : TookAll c.report c.report_after (ending_by opens options).report
   pub goes_on : options.mode ≡ GoOn → GoesOnWell (halting opens) (going_on opens)
   pub lives : DoesAsAlone opens.booted
   pub ends : EndsAsAlone opens.booted
