@@ -4,7 +4,7 @@
 -- ReplayLaws: the laws of `replay`.
 -- BootedRuns: what is said of a run from its opening world on, by the laws of boots, turns and runs.
 -- Headers, GoOn, GoOnTexts, HitsAlike, SamePrograms, BothModes: a run that goes on, beside the same run without it.
--- Headline: what a call of `run` did. BothRuns: two runs of one manifest. TraceLaws, WatchLaws: the laws of `trace` and of `--watch`.
+-- FirstFault: why a run is refused. RunsGoOn, Printed: that a run goes on well, and what it prints. Headline: what a call of `run` did. BothRuns: two runs of one manifest. TraceLaws, WatchLaws: the laws of `trace` and of `--watch`.
 -- KeptWorlds, KeptBoots, ItemsLaws: what a run records of one space, that it boots as without, and the items that it stores.
 -- AcceptedItems, ReplayedItems: what a replay says of the items that a run keeps, and of the file that it stored.
 -- DemoFaults, DemoLaws: the programs of a demo, and the laws of the command.
@@ -24,6 +24,9 @@ mod GoOn
 mod GoOnTexts
 mod HitsAlike
 mod SamePrograms
+mod RunsGoOn
+mod Printed
+mod FirstFault
 mod Headline
 mod BothRuns
 mod BothModes

@@ -20,7 +20,7 @@ use Rattle.file_commands.specs.Manifests.{manifest_limit}
 use Rattle.suite_top.specs.KeptItems.{keep_of}
 use Rattle.suite_top.specs.Run.{start_line, opening, mode_outcome, booted_outcome, brought_outcome, files_outcome, items_outcome, manifest_outcome, run_outcome}
 use Rattle.command_laws.specs.Booted.{Booted}
-use Rattle.command_laws.specs.RunLaws.{Opens, IsThere, behind_item, AreThere, opened_outcome, IsStop, IsEarly, RunsWhereItOpens, OpensWhereItStops, RunsStopOrEndEarly}
+use Rattle.command_laws.specs.RunLaws.{Opens, IsThere, behind_item, AreThere, IsStop, IsEarly, RunsWhereItOpens, OpensWhereItStops, RunsStopOrEndEarly}
 use Rattle.suite_top.proofs.RunOutcomes.{run_by, told_status}
 
 -- a manifest that is read has no number past its bound

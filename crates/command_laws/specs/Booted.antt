@@ -26,7 +26,7 @@ pub record Booted (keep : ℕ) (kind : Kind) (m : Manifest) (files : List (List 
   pub boots : boot (opening keep kind m brought) (map start_line m.starts) ≡ Ok world
 
 module _ {keep : ℕ} {kind : Kind} {m : Manifest} {files : List (List ℕ)} (b : Booted keep kind m files) where
-  -- the turns from that world
+  -- the turns from that world, up to the first stray access
   abbrev pub booted_turns : Walk
   booted_turns = turns (repeated m.repeat m.quanta) b.world
 
@@ -40,11 +40,11 @@ module _ {keep : ℕ} {kind : Kind} {m : Manifest} {files : List (List ℕ)} (b 
   abbrev pub booted_stays : List Stay
   booted_stays = stays_along (first_stays (empty_world (opening keep kind m b.brought)) (map start_line m.starts)) b.world (repeated m.repeat m.quanta)
 
-  -- what each process does is what its program does alone, under the replies that it had
+  -- what each process does up to the first stray access is what its program does alone, under the replies that it had
   abbrev pub DoesAsAlone : Type 0
   DoesAsAlone = AreRight booted_stays last_world
 
-  -- and how each process ends is how its program ends alone: each end that is noted is that of the run of one of the stays, as it was then
+  -- and how each process ends up to there is how its program ends alone: each end that is noted is that of the run of one of the stays, as it was then
   abbrev pub EndsAsAlone : Type 0
   EndsAsAlone = EndsAreTold booted_stays last_world.notes
 

@@ -8,7 +8,8 @@
 -- RomfsLaws     the command `romfs`, which loads as a run does
 -- Beside        a run with `--go-on` beside the same run without it
 -- HitsAlike     that both tell the same hits
--- Headline      what a call of `run` that reached its machine did
+-- FirstFault    why a run is refused
+-- Headline      what each call of `run` did, by its status
 -- TraceLaws     the command `trace`, beside the run of its manifest
 -- WatchLaws     a run with `--watch` beside the same run without it
 -- ItemsLaws     a run with `--items`: which items it stores
@@ -26,9 +27,10 @@ pub mod RunLaws
 pub mod RomfsLaws
 pub mod Beside
 pub mod HitsAlike
-pub mod Headline
+pub mod FirstFault
 pub mod TraceLaws
 pub mod WatchLaws
+pub mod Headline
 pub mod ItemsLaws
 pub mod AcceptedItems
 pub mod ReplayedItems

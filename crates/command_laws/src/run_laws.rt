@@ -1,17 +1,19 @@
 //! Laws over every run. No code runs.
 ghost use Rattle.command_laws.specs.Beside.{MemoryIsInOrder, MemoryIsRegular, RunsEndEarlyAlike, RunsGoOnWell, RunsOnNeverStray, RunsTellWell};
-ghost use Rattle.command_laws.specs.Headline.{RunsAreRunsAlone};
+ghost use Rattle.command_laws.specs.Headline.{RunsEndByStatus};
 ghost use Rattle.command_laws.specs.HitsAlike.{HitsAlike};
 ghost use Rattle.command_laws.specs.RunLaws.{RunsWhereItOpens, OpensWhereItStops, RunsStopOrEndEarly, RunsAreAsAlone, EndsAreAsAlone, RunsWaitWell, WorldsAreInOrder, WorldsAreRegular};
 ghost use Rattle.command_laws.specs.ItemsLaws.{TextsAreOfStays, ItemsAreStored, KeepingEndsEarlyAlike};
 ghost use Rattle.command_laws.specs.WatchLaws.{WatchesAreRuns, WatchesTellHits};
 ghost use Rattle.originals.specs.Originals.{OriginalsAreSame};
 
-/// The headline, of each call of `run`, over any host, sinks, manifest, placement and quanta: where it ends with one of the statuses of a
-/// machine that stopped, the status and both texts are those of the turns of private spaces (with `--go-on`, of the turns over one memory),
-/// from the world that the loaded files open; and each process did, and ended as, its own program does alone.
+/// The headline, of each call of `run`, over any host, sinks, manifest, placement and quanta, by its status. Where it is that of a machine
+/// that stopped, status and report are those of the turns of private spaces (with `--go-on`, of the turns over one memory, which are the
+/// private ones up to the first stray access), from the world that the loaded files open; `out` took the joined data of the noted writes to
+/// the console; and each process did, and ended as, its own program does alone, up to the first stray access. Refused is told by the first
+/// fault's one line; each other status comes of a failure that was counted, or of want of memory.
 pub fn headline_law()
-    ensures { RunsAreRunsAlone }
+    ensures { RunsEndByStatus }
 {}
 
 /// A run reaches its machine exactly where all files are there and nothing has a fault.
@@ -26,9 +28,9 @@ pub fn originals_law()
     ensures { OriginalsAreSame }
 {}
 
-/// Each process of a run does what its own program does alone, loaded at its place, under the replies that it had: its calls are
-/// those that were kept, and its registers, own ranges and own bytes are those of its space. An ELF file's program is the file
-/// itself, relocated by the psABI. And a process ends as its program does alone, by the same exit or signal.
+/// Up to the first stray access each process of a run does what its own program does alone, loaded at its place, under the replies that it
+/// had: its calls are those that were kept, and its registers, own ranges and own bytes are those of its space. An ELF file's program is the
+/// file itself, relocated by the psABI. And a process ends as its program does alone, by the same exit or signal.
 pub fn alone_law()
     ensures lives { RunsAreAsAlone }
     ensures ends { EndsAreAsAlone }

@@ -1,58 +1,37 @@
 -- By the law that a run which goes on is that of private spaces up to its first stray access.
-use Rattle.std.proofs.Common.{◌≡◌, ◌≢◌, ℕ, false, List, ◌++◌, map, Option, Some, None, refl, sym, ap, subst, ◌∙◌}
+use Rattle.std.proofs.Common.{◌≡◌, ◌≢◌, ℕ, List, ◌++◌, map, Option, Some, None, refl, sym, ap, subst, ◌∙◌}
 use Rattle.page_runs.specs.declared.place.Kind.{Kind}
 use Rattle.byte_words.specs.declared.access.Access.{Access}
 use Rattle.machine_world.specs.Turns.{stray_at}
-use Rattle.memory_world.specs.Physical.{Physical, has_stray, opening_in}
+use Rattle.memory_world.specs.Physical.{opening_in}
 use Rattle.memory_world.proofs.Growth.{runs_leave_programs}
-use Rattle.go_on_laws.specs.Alike.{Stands}
-use Rattle.go_on_laws.specs.Laws.{GoesAlike}
-use Rattle.go_on_laws.proofs.Boots.{boots_go_on, boots_note_no_stray}
-use Rattle.go_on_laws.proofs.Walks.{runs_go_on}
 use Rattle.watch_points.specs.declared.hits.Hit.{Hit}
 use Rattle.watch_points.specs.Points.{most_hits, none_found, with_hits}
 use Rattle.flat_machine.specs.Runs.{repeated}
 use Rattle.suite_top.specs.Report.{own_dumps, memory_dumps, report_text, status_of_end}
-use Rattle.suite_top.specs.Run.{start_line, opening}
 use Rattle.suite_top.specs.Watched.{span_of, found_text}
 use Rattle.watch_points.specs.declared.point.PointKind.{PointKind}
 use Rattle.file_commands.specs.Arguments.{RunOptions}
 use Rattle.file_commands.specs.Outcome.{Inputs}
 use Rattle.command_laws.specs.RunLaws.{Opens}
 use Rattle.command_laws.specs.Beside.{halting, going_on, halting_ending, halting_hits, going_on_hits, ReportsAlike}
-use Rattle.command_laws.proofs.GoOn.{ends_alike, goes_past, goes_on_well}
+use Rattle.command_laws.proofs.GoOn.{ends_alike, goes_past}
 use Rattle.command_laws.proofs.GoOnTexts.{reports_alike, report_begins, begins_later}
 use Rattle.command_laws.proofs.HitsAlike.{hits_alike}
 use Rattle.command_laws.proofs.SamePrograms.{programs_stay}
 use Rattle.command_laws.proofs.BothModes.{runs_end_early_alike, runs_on_never_stray}
-use Rattle.command_laws.proofs.Headers.{headers_short}
-use Rattle.command_laws.proofs.BootedRuns.{can_boot, few_starts, sound}
+use Rattle.command_laws.proofs.BootedRuns.{sound}
 use Rattle.command_laws.proofs.RunLaws.{reasonable}
+use Rattle.command_laws.proofs.RunsGoOn.{one, stands, unstrayed, goes_alike, runs_go_on_well}
 use Rattle.command_laws.proofs.run_laws.go_on_law.Goals as goal
 
 module _ {inputs : Inputs} {name : List ℕ} {keep : ℕ} {kind : Kind} (o : Opens inputs name keep kind) where
-  abbrev one : Physical
-  one = opening_in o.booted.brought.headers o.booted.world
-
-  stands : Stands o.booted.world one
-  stands =
-      let is = reasonable o in
-      let b = o.booted in
-      boots_go_on (opening keep kind o.manifest b.brought) (map start_line o.manifest.starts) b.world b.brought.headers (can_boot is b) (few_starts is b)
-      (headers_short o.manifest.items o.files b.brought b.brings) b.boots
-
-  unstrayed : has_stray o.booted.world.notes ≡ false
-  unstrayed = boots_note_no_stray (opening keep kind o.manifest o.booted.brought) (map start_line o.manifest.starts) o.booted.world o.booted.boots
-
-  goes_alike : GoesAlike (halting o).world (going_on o) (halting o).end
-  goes_alike = runs_go_on (repeated o.manifest.repeat o.manifest.quanta) o.booted.world one (sound (reasonable o) o.booted) stands unstrayed
-
   same_hits_of : (options : RunOptions) (watch : Option PointKind) → ((pid : ℕ) (access : Access) → (halting o).end ≢ Some (stray_at pid access))
       → halting_hits (record options { watch = watch }) o ≡ going_on_hits (record options { watch = watch }) o
   same_hits_of options None never = refl
   same_hits_of options (Some point) never =
       ap (λ (hits : List Hit). found_text (with_hits (none_found most_hits) hits))
-      (hits_alike point (map span_of o.manifest.watches) (repeated o.manifest.repeat o.manifest.quanta) o.booted.world one (sound (reasonable o) o.booted) stands unstrayed never)
+      (hits_alike point (map span_of o.manifest.watches) (repeated o.manifest.repeat o.manifest.quanta) o.booted.world (one o) (sound (reasonable o) o.booted) (stands o) (unstrayed o) never)
 
   same_hits : (options : RunOptions) → ((pid : ℕ) (access : Access) → (halting o).end ≢ Some (stray_at pid access)) → halting_hits options o ≡ going_on_hits options o
   same_hits options never = same_hits_of options options.watch never
@@ -65,7 +44,7 @@ module _ {inputs : Inputs} {name : List ℕ} {keep : ℕ} {kind : Kind} (o : Ope
       (runs_leave_programs quanta (opening_in b.brought.headers b.world)).programs ∙ sym (programs_stay b.world.rest.programs quanta b.world refl)
 
 pub returns-clause-worlds : goal.returns-clause-worlds
-returns-clause-worlds c inputs name keep kind o = goes_on_well (halting o) (going_on o) (goes_alike o)
+returns-clause-worlds c = runs_go_on_well
 
 pub returns-clause-texts : goal.returns-clause-texts
 returns-clause-texts c inputs name options o = record {
