@@ -25,7 +25,7 @@ use Rattle.file_commands.specs.Load.{at_once, behind, with_limited, with_load}
 use Rattle.file_commands.specs.Items.{load_limit, files_limit, has_file, with_item, with_items}
 use Rattle.file_commands.specs.Manifests.{manifest_limit}
 use Rattle.suite_top.specs.Telling.{Telling, mode_of, placement_of, kept_of}
-use Rattle.suite_top.specs.Kept.{keep_of}
+use Rattle.suite_top.specs.KeptItems.{keep_of}
 use Rattle.suite_top.specs.Report.{own_dumps, memory_dumps}
 use Rattle.suite_top.specs.Run.{start_line, opening, boot_fault, world_hits, memory_hits, mode_outcome, booted_outcome, brought_outcome, files_outcome, manifest_outcome, run_outcome}
 use Rattle.suite_top.proofs.RunOutcomes.{told_status, run_by}

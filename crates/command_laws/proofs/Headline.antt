@@ -14,7 +14,7 @@ use Rattle.file_commands.specs.Outcome.{Outcome, Inputs}
 use Rattle.suite_top.specs.Telling.{Report}
 use Rattle.suite_top.specs.Call.{Call, outcome_of, MeetsOutcome, MeetsOver}
 use Rattle.suite_top.specs.Result.{command_outcome}
-use Rattle.suite_top.specs.Kept.{keep_of}
+use Rattle.suite_top.specs.KeptItems.{keep_of}
 use Rattle.suite_top.specs.Run.{mode_ending, run_outcome}
 use Rattle.suite_top.specs.StatusLaws.{IsAnswer, IsPerformed, FilesRemain}
 use Rattle.suite_top.proofs.HostLaws.{told_is, loads_keep}

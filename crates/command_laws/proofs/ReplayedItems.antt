@@ -12,7 +12,7 @@ use Rattle.file_commands.specs.declared.command.Format.{Format}
 use Rattle.file_commands.specs.Arguments.{replay}
 use Rattle.file_commands.specs.Replay.{verdict_ending}
 use Rattle.suite_top.specs.Call.{Call}
-use Rattle.suite_top.specs.Kept.{text_or_none}
+use Rattle.suite_top.specs.KeptItems.{text_or_none}
 use Rattle.suite_top.specs.StatusLaws.{IsAnswer}
 use Rattle.command_laws.specs.ReplayLaws.{IsJudged}
 use Rattle.command_laws.specs.ItemsLaws.{stay_text}
