@@ -1,5 +1,6 @@
 -- For the private functions: the accesses near what is watched, and what is left of a run that left its loop.
-use Rattle.std.specs.Prelude.{◌≡◌, ℕ, ◌+◌, ◌-◌, ◌^◌, ◌%◌, Bool, true, ◌&&◌, nat_le, if◌then◌else◌, Option, Some, None, List, [], ◌∷◌, ◌++◌, map, filter, length}
+use Rattle.std.specs.Prelude.{◌≡◌, ℕ, ◌+◌, ◌-◌, ◌^◌, ◌%◌, ◌<◌, Bool, true, ◌&&◌, nat_le, nat_lt, if◌then◌else◌, Option, Some, None, List, [], ◌∷◌, ◌++◌, map, filter, length}
+use Rattle.std.specs.List.{list_any}
 use Rattle.std.proofs.Common.{refl, ap, sym, ◌∙◌}
 use Rattle.byte_words.specs.ByteMap.{Bytes}
 use Rattle.byte_words.specs.declared.access.Access.{Access}
@@ -26,6 +27,11 @@ near_to near a = nat_le ((a + 2 ^ 32 - near.low) % 2 ^ 32) near.last
 -- whatever hits is near
 abbrev pub IsNear : Near → List Span → Type 0
 IsNear near spans = (kind : PointKind) (addr len : ℕ) → IsShort addr len → hit kind spans addr len ≡ true → near_to near addr ≡ true
+
+-- the addresses that are near are exactly those from 3 below the lowest span on, up to the last byte of the highest
+abbrev pub HasBounds : Near → List Span → Type 0
+HasBounds near spans = 0 < length spans → (a : ℕ) → a < 2 ^ 32
+    → near_to near a ≡ (list_any (λ span. nat_le span.addr (a + 3)) spans && list_any (λ span. nat_lt a (span.addr + span.len)) spans)
 
 -- a load or store that was carried out near
 abbrev pub is_near : Near → Asked → Bool

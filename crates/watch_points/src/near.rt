@@ -1,7 +1,7 @@
 //! The addresses near what is watched.
 
 ghost use Rattle.std.specs.Prelude.{◌≡◌};
-ghost use Rattle.watch_points.specs.Near.{IsNear, near_to};
+ghost use Rattle.watch_points.specs.Near.{HasBounds, IsNear, near_to};
 ghost use Rattle.watch_points.specs.Points.{AreSpans};
 
 use crate::span::Span;
@@ -18,10 +18,11 @@ impl Near {
     /// From 3 below the lowest span on, up to the last byte of the highest.
     pub fn of(spans: &[Span]) -> Near
         requires { AreSpans spans.now }
-        ensures { IsNear result spans.now }
+        ensures near { IsNear result spans.now }
+        ensures bounds { HasBounds result spans.now }
     {
         let mut low = u32::MAX;
-        let mut top = 0;
+        let mut top = 0_u32;
         for span in spans {
             low = low.min(span.addr);
             top = top.max(span.addr + (span.len - 1));

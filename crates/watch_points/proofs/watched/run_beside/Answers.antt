@@ -43,7 +43,7 @@ returns-then-ne g c =
     let run = c.run_near-run.ensures in
     let before = c.loop-done.invariant in
     let other : c.run_near-run.result.progress.stop ≢ Next = search rules in
-    let all = reached_told c.args.count _ _ _ _ _ _ _ _ _ _ _ _ _ _ _ _ (λ next. absurd (other next)) c.of-near.ensures
+    let all = reached_told c.args.count _ _ _ _ _ _ _ _ _ _ _ _ _ _ _ _ (λ next. absurd (other next)) c.of-near.ensures.near
     (reached_on c.args.count _ _ _ _ _ _ _ _ _ _ _ _ _ _ _ _ _ _ _ _ _ _ _ _ before.mode before.owners before.reached run.left c.tell.ensures) in
     record {
       leaves = record { leaves = all.leaves; frozen = all.frozen; size = all.size; first = all.strays; halts = all.halts };
@@ -54,7 +54,7 @@ returns-then-ne g c =
 pub returns : goal.returns
 returns g c =
     let before = c.loop-done.invariant in
-    let all = reached_told c.args.count _ _ _ _ _ _ _ _ _ _ _ _ _ _ _ _ (λ next. omega arith) c.of-near.ensures
+    let all = reached_told c.args.count _ _ _ _ _ _ _ _ _ _ _ _ _ _ _ _ (λ next. omega arith) c.of-near.ensures.near
     (reached_end c.args.count _ _ _ _ _ _ _ _ _ _ _ _ _ _ _ (omega (arith, before.bound, c.loop-done-test.false)) before.reached) in
     record {
       leaves = record { leaves = all.leaves; frozen = all.frozen; size = all.size; first = all.strays; halts = all.halts };
