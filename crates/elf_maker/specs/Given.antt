@@ -1,5 +1,5 @@
 -- What is given to `make`, and what has to hold of it.
-use Rattle.std.specs.Prelude.{◌≡◌, ◌≢◌, ℕ, ◌+◌, ◌^◌, ◌<◌, ◌≤◌, ◌==◌, Bool, false, List, [], length}
+use Rattle.std.specs.Prelude.{◌≡◌, ◌≢◌, ℕ, ◌+◌, ◌≤◌, ◌==◌, Bool, false, List, [], length}
 use Rattle.std.specs.List.{list_any, filter, flat_map, range_with_len, slice_get}
 use Rattle.std.specs.Option.{IsSomeAnd}
 use Rattle.std.specs.Int.Bits.{bit_and}
@@ -34,13 +34,6 @@ pub record IsRela (parts : List Part) (symbols : List MakeSymbol) (r : MakeRela)
 -- all bytes of the parts and of the names, counted together
 abbrev pub total : List Part → List MakeSymbol → ℕ
 total parts symbols = length (flat_map (λ p. p.bytes.items) parts) + length (flat_map (λ s. s.name.items) symbols)
-
--- there are fewer than 1000 parts, and fewer than 2^24 symbols, relocations, and bytes of parts and names
-pub record AreFew (parts : List Part) (symbols : List MakeSymbol) (relas : List MakeRela) : Type 0 where
-  pub few_parts : length parts < 1000
-  pub few_symbols : length symbols < 2 ^ 24
-  pub few_relas : length relas < 2 ^ 24
-  pub few_bytes : total parts symbols < 2 ^ 24
 
 -- the relocations of part p, in their order
 abbrev pub relas_of : ℕ → List MakeRela → List MakeRela

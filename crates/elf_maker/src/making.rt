@@ -2,7 +2,7 @@
 
 ghost use Rattle.std.specs.Prelude.{◌≡◌, ℕ, ◌+◌, ◌*◌, ◌^◌, ◌<◌, ◌≤◌, [], ◌∷◌, ◌++◌, length, map, IfOk, OnOk};
 ghost use Rattle.std.specs.List.{All, AllByRecursion, flat_map};
-ghost use Rattle.elf_maker.specs.Given.{AreFew, IsPart, HasPlainName, IsRela};
+ghost use Rattle.elf_maker.specs.Given.{IsPart, HasPlainName, IsRela, total};
 ghost use Rattle.elf_maker.specs.Fits.{FitsPart, FitsSymbol, FitsAll};
 ghost use Rattle.elf_maker.specs.Makes.{Makes};
 ghost use Rattle.elf_maker.specs.Values.{part_value, symbol_value, file_bytes};
@@ -24,27 +24,18 @@ const SYMBOL_LEN: u32 = 16;
 /// The bytes of a relocation with an addend.
 const RELA_LEN: u32 = 12;
 
-/// What a section's header says of its entries.
-#[derive(Clone, Copy)]
-struct Entries {
-    /// Another section that they tell of.
-    link: u32,
-    info: u32,
-    /// The bytes of each.
-    len: u32,
-}
-
-/// Of a section without entries.
-const NO_ENTRIES: Entries = Entries {
-    link: 0,
-    info: 0,
-    len: 0,
-};
-
 /// A section header without its offset, whose numbers are known to fit.
 #[tactic(auto, unfolding(crate::specs::Spelling::header_of))]
-fn section(kind: u32, flags: u32, addr: u32, size: u32, entries: Entries) -> Section
-    ensures header { result ≡ header_of kind flags addr size entries.link entries.info entries.len }
+fn section(
+    kind: u32,
+    flags: u32,
+    addr: u32,
+    size: u32,
+    link: u32,
+    info: u32,
+    entsize: u32,
+) -> Section
+    ensures header { result ≡ header_of kind flags addr size link info entsize }
     ensures kind { kind < 2 ^ 32 }
     ensures flags { flags < 2 ^ 32 }
     ensures addr { addr < 2 ^ 32 }
@@ -57,10 +48,10 @@ fn section(kind: u32, flags: u32, addr: u32, size: u32, entries: Entries) -> Sec
         addr,
         offset: 0,
         size,
-        link: entries.link,
-        info: entries.info,
+        link,
+        info,
         addralign: 1,
-        entsize: entries.len,
+        entsize,
     }
 }
 
@@ -70,15 +61,15 @@ fn part_section(part: &Part) -> Section
     ensures header { result ≡ part_header part.now }
     ensures fits { FitsPart part.now }
 {
-    section(part.kind, part.flags, part.addr, part.size, NO_ENTRIES)
+    section(part.kind, part.flags, part.addr, part.size, 0, 0, 0)
 }
 
 /// The section header of a table, without its offset.
 #[tactic(auto, unfolding(crate::specs::Spelling::table_header))]
-fn table_section(kind: u32, size: u32, entries: Entries) -> Section
-    ensures { result ≡ table_header kind size entries.link entries.info entries.len }
+fn table_section(kind: u32, size: u32, link: u32, info: u32, entsize: u32) -> Section
+    ensures { result ≡ table_header kind size link info entsize }
 {
-    section(kind, 0, 0, size, entries)
+    section(kind, 0, 0, size, link, info, entsize)
 }
 
 /// Adds a section for each part.
@@ -107,20 +98,12 @@ fn push_symbols(
 {
     let table = symbol_table(alloc, symbols)?;
     let entries_len = table.entries.len() as u32;
-    let entries = Entries {
-        link: parts + 2,
-        info: 1,
-        len: SYMBOL_LEN,
-    };
     writer.push(
-        table_section(SHT_SYMTAB, entries_len, entries),
+        table_section(SHT_SYMTAB, entries_len, parts + 2, 1, SYMBOL_LEN),
         &table.entries,
     )?;
     let names_len = table.names.len() as u32;
-    writer.push(
-        table_section(SHT_STRTAB, names_len, NO_ENTRIES),
-        &table.names,
-    )
+    writer.push(table_section(SHT_STRTAB, names_len, 0, 0, 0), &table.names)
 }
 
 /// Adds the relocation section of a part, unless it has no entry.
@@ -134,12 +117,10 @@ fn push_table(writer: &mut Writer, symtab: u32, part: u32, table: &[u8]) -> Resu
         return Ok(());
     }
     let len = table.len() as u32;
-    let entries = Entries {
-        link: symtab,
-        info: part + 1,
-        len: RELA_LEN,
-    };
-    writer.push(table_section(SHT_RELA, len, entries), table)
+    writer.push(
+        table_section(SHT_RELA, len, symtab, part + 1, RELA_LEN),
+        table,
+    )
 }
 
 /// Adds a relocation section for each part that has relocations, given the entries of each.
@@ -163,7 +144,10 @@ fn written(
     relas: &[MakeRela],
     entry: u32,
 ) -> Result<Vec<u8>, AllocError>
-    requires few { AreFew parts.now symbols.now relas.now }
+    requires few_parts { length parts.now < 1000 }
+    requires few_bytes { total parts.now symbols.now < 2 ^ 24 }
+    requires few_symbols { length symbols.now < 2 ^ 24 }
+    requires few_relas { length relas.now < 2 ^ 24 }
     requires relas { All (IsRela parts.now symbols.now) relas.now }
     ensures file { IfOk result (λ file. file.items ≡ spelled parts.now symbols.now relas.now entry) }
     ensures fits { OnOk result (FitsAll parts.now symbols.now relas.now entry) }
@@ -189,7 +173,10 @@ pub fn make(
     relas: &[MakeRela],
     entry: u32,
 ) -> Result<Vec<u8>, AllocError>
-    requires few { AreFew parts.now symbols.now relas.now }
+    requires few_parts { length parts.now < 1000 }
+    requires few_symbols { length symbols.now < 2 ^ 24 }
+    requires few_relas { length relas.now < 2 ^ 24 }
+    requires few_bytes { total parts.now symbols.now < 2 ^ 24 }
     requires parts { AllByRecursion IsPart parts.now }
     requires symbols { AllByRecursion HasPlainName symbols.now }
     requires relas { AllByRecursion (IsRela parts.now symbols.now) relas.now }

@@ -103,5 +103,7 @@ fn item_with<'a>(
 fn maps_file(entry: &Entry) -> bool
     ensures { result ≡ maps_file (entry_value entry.now) }
 {
-    entry.call == numbers::MMAP2 && !is_errno(entry.reply) && !has_flag(entry.args[3], MAP_ANONYMOUS)
+    entry.call == numbers::MMAP2
+        && !is_errno(entry.reply)
+        && !has_flag(entry.args[3], MAP_ANONYMOUS)
 }

@@ -66,7 +66,7 @@ pub record CutAt (ranges : List Range) (k : ℕ) (r : Range) (addr size : ℕ) :
 
 pub cut_at : (ranges mid : List Range) (k : ℕ) (r : Range) (addr n : ℕ) → AreOwnRanges ranges → mid ≡ ranges → r ≡ get_or mid k r → CanCutAt ranges k addr n → CutAt ranges k r addr (4096 * n)
 cut_at ranges mid k r addr n own same value c =
-    let there : slice_get ranges k ≡ Some r = slice_get_read ranges (length ranges) k r refl c.place (value ∙ ap (λ (l : List Range). get_or l k r) same) in
+    let there : slice_get ranges k ≡ Some r = slice_get_read ranges (length ranges) k r refl c.there (value ∙ ap (λ (l : List Range). get_or l k r) same) in
     let is = own k r there in
     let cuts : Cuts 16384 (mapping_of r) addr (4096 * n) = record {
       mapping = mapping_is r is;

@@ -49,7 +49,7 @@ pub record AreTabled (ranges : List Range) (table : List PageOwner) : Type 0 whe
 pub record CanCutAt (ranges : List Range) (place addr pages : ℕ) : Type 0 where
   pub begins : addr % page_size ≡ 0
   pub some : 0 < pages
-  pub place : place < length ranges
+  pub there : place < length ranges
   pub can : (r : Range) → slice_get ranges place ≡ Some r → can_cut addr (page_size * pages) r ≡ true
 
 -- the block, whose header isn't own

@@ -12,10 +12,10 @@ returns-clause-makes c =
     let symbols = c.args.symbols.now in
     let relas = c.args.relas.now in
     made_if_ok parts symbols relas c.args.entry c.written.result c.written.ensures.file c.written.ensures.fits (λ fits. record {
-      few_parts = c.requires.few.few_parts;
-      few_symbols = c.requires.few.few_symbols;
-      few_relas = c.requires.few.few_relas;
-      few_bytes = c.requires.few.few_bytes;
+      few_parts = c.requires.few_parts;
+      few_symbols = c.requires.few_symbols;
+      few_relas = c.requires.few_relas;
+      few_bytes = c.requires.few_bytes;
       each_part = All-from_recursion IsPart parts c.requires.parts;
       each_symbol = All-from_recursion HasPlainName symbols c.requires.symbols;
       each_rela = All-from_recursion (IsRela parts symbols) relas c.requires.relas;

@@ -12,8 +12,8 @@ pub push_symbols-requires-clause-room : goal.push_symbols-requires-clause-room
 push_symbols-requires-clause-room c =
     omega (
       arith,
-      c.requires.few.few_bytes,
-      c.requires.few.few_symbols,
+      c.requires.few_bytes,
+      c.requires.few_symbols,
       ap length c.in_ok-writer.ensures.body,
       length-contents c.in_ok-writer.writer c.push_parts.new.writer (map part_item c.args.parts.now) c.in_ok-push_parts.ensures.sections,
       ap length (contents-parts c.args.parts.now),
@@ -28,7 +28,7 @@ pub push_tables-requires-clause-count : goal.push_tables-requires-clause-count
 push_tables-requires-clause-count c =
     omega (
       arith,
-      c.requires.few.few_parts,
+      c.requires.few_parts,
       ap length c.deref.ensures.value,
       length-map c.in_ok-tables.tables.items (λ (t : Vec ℕ Global). t.items),
       ap length c.in_ok-tables.ensures.tables,
@@ -41,9 +41,9 @@ push_tables-requires-clause-room c =
     let symbols = c.args.symbols.now in
     omega (
       arith,
-      c.requires.few.few_bytes,
-      c.requires.few.few_symbols,
-      c.requires.few.few_relas,
+      c.requires.few_bytes,
+      c.requires.few_symbols,
+      c.requires.few_relas,
       ap length c.in_ok-writer.ensures.body,
       length-contents c.in_ok-writer.writer c.push_parts.new.writer (map part_item c.args.parts.now) c.in_ok-push_parts.ensures.sections,
       ap length (contents-parts c.args.parts.now),
@@ -65,7 +65,7 @@ finish-requires-clause-count c =
     c.in_ok-writer.ensures.sections c.in_ok-writer.ensures.body c.in_ok-push_parts.ensures.sections c.in_ok-push_symbols.ensures.sections c.in_ok-push_tables.ensures texts in
     omega (
       arith,
-      c.requires.few.few_parts,
+      c.requires.few_parts,
       ap length all.sections,
       length-placed 52 (all_items c.args.parts.now c.args.symbols.now c.args.relas.now),
       length-all_items c.args.parts.now c.args.symbols.now c.args.relas.now,
@@ -79,7 +79,7 @@ finish-requires-clause-body c =
     omega (
       arith,
       ap length all.body,
-      length-all_contents c.args.parts.now c.args.symbols.now c.args.relas.now c.requires.few.few_bytes c.requires.few.few_symbols c.requires.few.few_relas,
+      length-all_contents c.args.parts.now c.args.symbols.now c.args.relas.now c.requires.few_bytes c.requires.few_symbols c.requires.few_relas,
     )
 
 pub returns-clause-file : goal.returns-clause-file

@@ -16,15 +16,15 @@ returns-then-not-frame_fits c =
     no_frame (flat_original c.args.flat.now) (items_value c.args.items.now)
     ((λ i. frame_fits (flat_original c.args.flat.now) (texts (sym c.deref.ensures.value i)) (texts (sym c.deref-2.ensures.value i))) ∙ sym c.frame_fits.ensures ∙ c.if-not-frame_fits.true)
 
-pub returns-then-from-gt-END : goal.returns-then-from-gt-END
-returns-then-from-gt-END c =
-    let past : memory_end < c.args.items.now.base + block_len (flat_original c.args.flat.now) = (let test = c.if-from-gt-END.true in let base = c.from.ensures in let len = c.from-2.ensures in let value = c.block_len.ensures.value in omega (arith, test, base, len, value)) in
+pub returns-then-from-gt-MEMORY_END : goal.returns-then-from-gt-MEMORY_END
+returns-then-from-gt-MEMORY_END c =
+    let past : memory_end < c.args.items.now.base + block_len (flat_original c.args.flat.now) = (let test = c.if-from-gt-MEMORY_END.true in let base = c.from.ensures in let len = c.from-2.ensures in let value = c.block_len.ensures.value in omega (arith, test, base, len, value)) in
     no_place (flat_original c.args.flat.now) (items_value c.args.items.now)
     ((λ i. frame_fits (flat_original c.args.flat.now) (texts (sym c.deref.ensures.value i)) (texts (sym c.deref-2.ensures.value i))) ∙ sym c.frame_fits.ensures ∙ c.if-not-frame_fits.false) past
 
 pub returns : goal.returns
 returns c =
-    let within : c.args.items.now.base + block_len (flat_original c.args.flat.now) ≤ memory_end = (let test = c.if-from-gt-END.false in let base = c.from.ensures in let len = c.from-2.ensures in let value = c.block_len.ensures.value in omega (arith, test, base, len, value)) in
+    let within : c.args.items.now.base + block_len (flat_original c.args.flat.now) ≤ memory_end = (let test = c.if-from-gt-MEMORY_END.false in let base = c.from.ensures in let len = c.from-2.ensures in let value = c.block_len.ensures.value in omega (arith, test, base, len, value)) in
     is_placed (flat_original c.args.flat.now) (items_value c.args.items.now)
     ((λ i. frame_fits (flat_original c.args.flat.now) (texts (sym c.deref.ensures.value i)) (texts (sym c.deref-2.ensures.value i))) ∙ sym c.frame_fits.ensures ∙ c.if-not-frame_fits.false) within
     c.in_ok-replay_all.field-0 (solo_of c.in_ok-lone.lone)

@@ -44,7 +44,7 @@ pub returns-clause-ranges : goal.returns-clause-ranges
 returns-clause-ranges c = λ r there.
     let ranges = c.args.ranges.now.items in
     let cut = cut_at c.args.ranges.now.items c.reserve.new.self.items c.args.place c.remove-range.result c.args.addr c.args.pages c.requires.tabled.own c.reserve.ensures.items c.remove-range.ensures.value c.requires.cuts in
-    let items = cut_items c.args.ranges.now.items c.reserve.new.self.items c.remove-range.new.self.items c.insert_part.new.ranges.items c.insert_part-2.new.ranges.items c.args.place c.remove-range.result c.args.addr (4096 * c.args.pages) c.reserve.ensures.items c.requires.cuts.place c.remove-range.ensures.items c.insert_part.ensures.items c.insert_part-2.ensures.items in
+    let items = cut_items c.args.ranges.now.items c.reserve.new.self.items c.remove-range.new.self.items c.insert_part.new.ranges.items c.insert_part-2.new.ranges.items c.args.place c.remove-range.result c.args.addr (4096 * c.args.pages) c.reserve.ensures.items c.requires.cuts.there c.remove-range.ensures.items c.insert_part.ensures.items c.insert_part-2.ensures.items in
     items ∙ ap (λ (x : Range). take c.args.place ranges ++ parts x c.args.addr (4096 * c.args.pages) ++ drop (c.args.place + 1) ranges) (same_Some _ _ (sym cut.there ∙ there))
 
 pub returns-clause-tabled : goal.returns-clause-tabled
@@ -52,7 +52,7 @@ returns-clause-tabled c =
     let ranges = c.args.ranges.now.items in
     let r = c.remove-range.result in
     let cut = cut_at ranges c.reserve.new.self.items c.args.place r c.args.addr c.args.pages c.requires.tabled.own c.reserve.ensures.items c.remove-range.ensures.value c.requires.cuts in
-    let items = cut_items ranges c.reserve.new.self.items c.remove-range.new.self.items c.insert_part.new.ranges.items c.insert_part-2.new.ranges.items c.args.place r c.args.addr (4096 * c.args.pages) c.reserve.ensures.items c.requires.cuts.place c.remove-range.ensures.items c.insert_part.ensures.items c.insert_part-2.ensures.items in
+    let items = cut_items ranges c.reserve.new.self.items c.remove-range.new.self.items c.insert_part.new.ranges.items c.insert_part-2.new.ranges.items c.args.place r c.args.addr (4096 * c.args.pages) c.reserve.ensures.items c.requires.cuts.there c.remove-range.ensures.items c.insert_part.ensures.items c.insert_part-2.ensures.items in
     rw items (record {
       pages = c.remove.ensures.len ∙ c.requires.tabled.pages;
       named = cut_named c.args.owners.now c.remove.new.self ranges c.args.place r (record { from = c.args.addr; size = 4096 * c.args.pages; writes = r.writes; anonymous = r.anonymous })

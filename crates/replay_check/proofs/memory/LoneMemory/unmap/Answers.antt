@@ -33,7 +33,7 @@ cut_range-requires-clause-cuts c =
     record {
       begins = c.if-addr-ne0.false;
       some = (let asked = c.if-len-eq0.false in let count = c.pages_for-pages.ensures in omega (arith, asked, count));
-      place = first.within;
+      there = first.within;
       can = first.passes;
     }
 
