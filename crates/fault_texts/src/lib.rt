@@ -3,8 +3,12 @@
 //! What may stand here: texts of such a file and its faults. What may not: which faults it has, a host, or any command.
 #![tactic(auto)]
 
+mod counts;
 mod names;
 mod symbols;
+mod words;
 
+pub use counts::{Count, Subject};
 pub use names::push_shown;
 pub use symbols::{push_home, push_section, push_symbol};
+pub use words::{elf_fault_words, layout_fault_words, reloc_fault_words};
