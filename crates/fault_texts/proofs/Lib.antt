@@ -1,6 +1,10 @@
 -- Starts          the start of a name tells what is shown of it
+-- Headers         which rows are of a file's header
+-- InTable         the symbols of an entry's sight are of its table
 -- Samples         names, computed
 -- ListingSamples  listings, computed
 pub mod Starts
+pub mod Headers
+pub mod InTable
 pub mod Samples
 pub mod ListingSamples

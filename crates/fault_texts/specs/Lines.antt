@@ -21,6 +21,7 @@ use Rattle.psabi_relocs.specs.Around.{around, meant}
 use Rattle.elf2flt_tool.specs.declared.fault.Fault.{Fault}
 use Rattle.elf2flt_tool.specs.declared.fault.Fault.TheVariants as every
 use Rattle.elf2flt_tool.specs.Faults.{Entry, entry_at}
+use Rattle.fault_texts.specs.declared.sights.Sight.{Sight}
 use Rattle.fault_texts.specs.Words.{elf_fault_words, layout_fault_words, reloc_fault_words}
 use Rattle.fault_texts.specs.Symbols.{section_text, symbol_text, home_text}
 
@@ -42,6 +43,10 @@ around_of e x = around e (table_of e x) (target_of e x) (place_of e x)
 
 abbrev pub meant_of : List ℕ → Entry → Meant
 meant_of e x = meant e (table_of e x) (rela e x.section x.index).symbol (rela e x.section x.index).addend
+
+-- both
+abbrev pub sight_of : List ℕ → Entry → Sight
+sight_of e x = record { around = around_of e x; meant = meant_of e x }
 
 -- a sign, and a distance in eight digits
 abbrev pub off_text : ℤ → List ℕ

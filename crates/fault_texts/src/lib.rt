@@ -4,7 +4,10 @@
 #![tactic(auto)]
 
 mod counts;
+mod entry;
+mod lines;
 mod names;
+mod sights;
 mod symbols;
 mod words;
 
