@@ -2,7 +2,7 @@
 
 ghost use Rattle.core_file.specs.Laws.{TextTells};
 
-/// Of a core file each part can be told: two files are the same where signal, pids, registers and segments are.
+/// A core file tells its parts: equal files are of equal signals, pids, registers (but x0) and segments.
 pub fn text_tells()
     ensures { TextTells }
 {}

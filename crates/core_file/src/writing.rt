@@ -148,7 +148,7 @@ fn push_bytes(out: &mut Vec<u8>, segments: &[Segment]) -> Result<(), AllocError>
 }
 
 /// The core file of a process: ELF header, program headers, the note with its registers, and its bytes.
-/// It has at most 65 MiB, and memory is asked once.
+/// It has at most 65 MiB.
 #[tactic(auto, unfolding(crate::specs::Text::core_text))]
 pub fn core_text(alloc: Global, core: &Core) -> Result<Vec<u8>, AllocError>
     requires { FitsFile (core_value core.now) }

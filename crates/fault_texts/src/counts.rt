@@ -12,5 +12,5 @@ pub struct Subject {
 #[derive(Clone, Copy)]
 pub struct Count {
     pub subject: Subject,
-    pub count: u32,
+    pub count: u64,
 }

@@ -12,6 +12,12 @@ mod symbols;
 mod words;
 
 pub use counts::{Count, Subject};
+pub use entry::{EntryAt, entry_of};
+pub use lines::{
+    push_head_line, push_header_line, push_layout_line, push_overlap_line, push_reloc_line,
+    push_target_line,
+};
 pub use names::push_shown;
+pub use sights::Sight;
 pub use symbols::{push_home, push_section, push_symbol};
 pub use words::{elf_fault_words, layout_fault_words, reloc_fault_words};
