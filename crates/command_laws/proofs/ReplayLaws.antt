@@ -40,7 +40,7 @@ use Rattle.items_text.proofs.Faulty.{fault_found}
 use Rattle.replay_check.proofs.Placing.{placed_judges}
 use Rattle.suite_top.proofs.StatusLaws.{completes}
 use Rattle.command_laws.proofs.OneFileLaws.{outcome_is, shows, Found, missing, long, fits, found}
-use Rattle.command_laws.proofs.RunLaws.{is_within}
+use Rattle.suite_top.proofs.Opened.{is_within}
 
 -- ---- the verdict is on the run of the program by itself
 

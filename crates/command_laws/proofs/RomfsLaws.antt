@@ -35,7 +35,7 @@ use Rattle.suite_top.proofs.HostLaws.{asked_after, loads_keep, stores_are_whole}
 use Rattle.suite_top.proofs.ImageOutcomes.{romfs_by}
 use Rattle.suite_top.proofs.StatusLaws.{completes}
 use Rattle.command_laws.proofs.OneFileLaws.{outcome_is, shows}
-use Rattle.command_laws.proofs.RunLaws.{is_within, loads_of, behind_all, items_there, within, items_within}
+use Rattle.suite_top.proofs.Opened.{is_within, loads_of, behind_all, items_there, within, items_within}
 
 outcome_of_romfs : (c : Call) (t t_after : Told) (manifest image : List ℕ) → IsRomfs c t t_after manifest image → outcome_of c ≡ romfs_outcome manifest image (inputs_in t.files)
 outcome_of_romfs c t t_after manifest image is = outcome_is c t t_after is.files (romfs manifest image) is.command

@@ -1,10 +1,10 @@
 -- The machine of a run before its first turn, and what is said of the run from there on: of `run` and of `demo` alike.
-use Rattle.std.specs.Prelude.{◌≡◌, ℕ, List, map, Some, Ok}
+use Rattle.std.specs.Prelude.{◌≡◌, ℕ, List, map, Some}
 use Rattle.page_runs.specs.declared.place.Kind.{Kind}
 use Rattle.quantum_sched.specs.declared.Quantum.{Quantum}
 use Rattle.manifest_text.specs.Values.{Manifest}
 use Rattle.machine_world.specs.World.{Process, World, pid_of}
-use Rattle.machine_world.specs.Boot.{boot, empty_world}
+use Rattle.machine_world.specs.Boot.{empty_world}
 use Rattle.machine_world.specs.Turns.{stuck, Walk, turns}
 use Rattle.machine_world.specs.Order.{IsInOrder}
 use Rattle.vfork_exec.specs.Keyed.{find}
@@ -14,16 +14,9 @@ use Rattle.alone_laws.specs.Stays.{Stay, AreRight, stays_along, first_stays}
 use Rattle.end_laws.specs.Laws.{EndsAreTold}
 use Rattle.refusal_laws.specs.Regular.{IsRegularWorld}
 use Rattle.flat_machine.specs.Runs.{repeated}
-use Rattle.run_setup.specs.Brought.{Brought, nothing_brought, all_brought}
 use Rattle.suite_top.specs.Run.{start_line, opening}
-
--- what the item lines bring in with these files, and the world in which each start line has its program: the opening world. It records the
--- space of this load note, and none where it is 0
-pub record Booted (keep : ℕ) (kind : Kind) (m : Manifest) (files : List (List ℕ)) : Type 0 where
-  pub brought : Brought
-  pub brings : all_brought m.items files nothing_brought ≡ Ok brought
-  pub world : World
-  pub boots : boot (opening keep kind m brought) (map start_line m.starts) ≡ Ok world
+-- what the item lines bring in with these files, and the opening world
+pub use Rattle.suite_top.specs.Opened.{Booted}
 
 module _ {keep : ℕ} {kind : Kind} {m : Manifest} {files : List (List ℕ)} (b : Booted keep kind m files) where
   -- the turns from that world, up to the first stray access

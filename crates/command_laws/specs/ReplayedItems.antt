@@ -3,7 +3,7 @@ use Rattle.std.specs.Prelude.{◌≡◌, ◌⊎◌, ℕ, List, [], length, Some,
 use Rattle.std.specs.FinMap.{get}
 use Rattle.host_io.specs.Host.{Files, Told}
 use Rattle.call_log.specs.Notes.{LoadEntry}
-use Rattle.items_text.specs.Items.{ItemsValue, AreHeld}
+use Rattle.items_text.specs.Items.{ItemsValue}
 use Rattle.machine_world.specs.World.{Program}
 use Rattle.replay_check.specs.Replays.{OriginalFile}
 use Rattle.replay_laws.specs.Files.{IsFileOf}
@@ -14,6 +14,7 @@ use Rattle.file_commands.specs.Texts.Replays.{yes_line}
 use Rattle.file_commands.specs.Arguments.{KeptItems, RunOptions}
 use Rattle.file_commands.specs.Delivery.{TookAll}
 use Rattle.suite_top.specs.Call.{Call}
+use Rattle.suite_top.specs.HeldItems.{KeepsHeld}
 use Rattle.suite_top.specs.StatusLaws.{IsCalm}
 use Rattle.command_laws.specs.Booted.{last_world}
 use Rattle.command_laws.specs.RunLaws.{Opens, IsStop}
@@ -39,12 +40,13 @@ pub record SaysYes (c : Call) (items : ItemsValue) : Type 0 where
   pub report : TookAll c.report c.report_after []
 
 -- Where the run ended as its machine stopped, and N has a load note, each replay of FILE over a file of that note's program says yes to the
--- items that the run kept, if no fault is counted; or it is out of memory. The items are held: their numbers are words, as the code's are
+-- items that the run kept, if no fault is counted; or it is out of memory. Of the run both clauses of `suite` are known: its outcome, and
+-- that the items which it keeps are held
 abbrev pub StoredItemsReplay : Type 0
 StoredItemsReplay = (c : Call) (t t_after : Told) (manifest : List ℕ) (options : RunOptions) (kept : KeptItems)
-    → IsKeeping c t t_after manifest options kept → IsStop c.status
+    → IsKeeping c t t_after manifest options kept → KeepsHeld c.arguments c.host.told c.status → IsStop c.status
     → (o : Opens c.inputs manifest kept.number options.kind)
     × ((load : LoadEntry) (p : Program) (items : ItemsValue) → load_of kept.number (last_world o.booted).notes ≡ Some load → slice_get o.booted.brought.programs load.program ≡ Some p
-    → kept_items o.booted ≡ Some items → AreHeld items
+    → kept_items o.booted ≡ Some items
     → (r : Call) (u u_after : Told) (kind : Format) (file : List ℕ) → ReplaysStored t_after.files kept.file p r u u_after kind file
     → IsCalm r → (r.status ≡ Memory) ⊎ SaysYes r items)

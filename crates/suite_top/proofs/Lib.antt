@@ -7,6 +7,8 @@
 -- Reports, Hits: the parts of the report of a run.
 -- Booted, RunEndings: what a boot of the machine gives, and how a run ends.
 -- Demos: the manifest of a demo.
+-- Each: what a loop has seen of each element.
+-- Opened, HeldItems: when a run reaches its machine, and that the items that it keeps are held.
 pub mod Usage
 pub mod SpelledNumbers
 pub mod LoadOutcomes
@@ -24,3 +26,6 @@ pub mod Hits
 pub mod Booted
 pub mod RunEndings
 pub mod Demos
+pub mod Each
+pub mod Opened
+pub mod HeldItems

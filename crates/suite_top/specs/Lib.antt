@@ -12,6 +12,8 @@
 -- Placements  ArePlacements, which `suite` asks for: a chooser for each placement
 -- Points      ArePoints, which `suite` asks for: a watch point for each kind of hit
 -- Call        MeetsResult, the clause of `suite`: a course of the outcome, and a delivery of its ending
+-- Opened      Opens: when a run reaches its machine, and the world that it opens
+-- HeldItems   KeepsHeld, a clause of `suite`: the numbers of the items that a run keeps are words, and their lists bytes
 -- StatusLaws, HostLaws   what holds of every call
 --
 -- Steps, Refusing, Running    for private functions only: a step of a run, why a machine doesn't start, and what is told behind its run
@@ -25,6 +27,8 @@ pub mod Result
 pub mod Placements
 pub mod Points
 pub mod Call
+pub mod Opened
+pub mod HeldItems
 pub mod StatusLaws
 pub mod HostLaws
 pub mod Steps

@@ -1,12 +1,14 @@
 //! The items that a run keeps.
-ghost use Rattle.std.specs.Prelude.{◌≡◌, ◌≢◌, IfOk};
+ghost use Rattle.std.specs.Prelude.{◌≡◌, ◌≢◌, None, IfOk};
 ghost use Rattle.flat_machine.specs.State.{world};
 ghost use Rattle.file_commands.specs.Answer.{ending_of, HasEnding};
 ghost use Rattle.file_commands.specs.Observed.{observed};
 ghost use Rattle.file_commands.specs.HostCourse.{Performs};
 ghost use Rattle.suite_top.specs.KeptItems.{keep_of, kept_text, kept_outcome, kept_in};
+ghost use Rattle.suite_top.specs.HeldItems.{RecordsHeld};
 ghost use Rattle.suite_top.specs.Telling.{ending_behind};
 
+use crate::held::held_law;
 use file_commands::{Answer, KeptItems, Status, store_file};
 use flat_machine::Machine;
 use host_io::Host;
@@ -32,7 +34,8 @@ pub fn keep_items<H: Host>(
     host: &mut H,
 ) -> Result<Answer, AllocError>
     requires { answer.status ≢ Status.HostRead }
-    ensures { Performs (observed H.told H.faults host.old) (observed H.told H.faults host.new) (kept_outcome (kept_in kept.entry) (world machine) (ending_behind (world machine).rest.console answer)) (ending_of result) }
+    ensures performs { Performs (observed H.told H.faults host.old) (observed H.told H.faults host.new) (kept_outcome (kept_in kept.entry) (world machine) (ending_behind (world machine).rest.console answer)) (ending_of result) }
+    ensures held { IfOk result (λ _. kept.entry ≢ None → RecordsHeld (world machine)) }
 {
     match kept {
         Some(kept) => {
@@ -59,10 +62,14 @@ fn with_console(machine: Machine, answer: Answer) -> Result<Answer, AllocError>
 
 /// The text of these items, or the line `none` where no program was loaded into such a space.
 fn kept_text(alloc: Global, machine: &Machine) -> Result<Vec<u8>, AllocError>
-    ensures { IfOk result (λ text. text.items ≡ kept_text (world machine.now)) }
+    ensures text { IfOk result (λ text. text.items ≡ kept_text (world machine.now)) }
+    ensures held { IfOk result (λ _. RecordsHeld (world machine.now)) }
 {
     match machine.items(alloc)? {
-        Some(items) => items_text(alloc, &items),
+        Some(items) => {
+            held_law(&items);
+            items_text(alloc, &items)
+        }
         None => Vec::from_slice(alloc, b"none\n"),
     }
 }

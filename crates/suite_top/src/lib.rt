@@ -6,6 +6,7 @@
 
 mod course;
 mod demo_run;
+mod held;
 mod kept;
 mod laws;
 mod loaded;

@@ -23,6 +23,7 @@ ghost use Rattle.suite_top.specs.Telling.{placement_of, watch_of, telling_value}
 ghost use Rattle.suite_top.specs.Watched.{found_text};
 ghost use Rattle.suite_top.specs.Running.{IsLoaded, IsReady, TellsHalting, TellsGoingOn};
 ghost use Rattle.suite_top.specs.Run.{files_outcome, run_outcome};
+ghost use Rattle.suite_top.specs.HeldItems.{FilesHold, RunHolds};
 ghost use Rattle.suite_top.specs.Steps.{Gives, manifest_ending, boot_ending};
 
 use crate::course::Course;
@@ -61,7 +62,8 @@ where
     requires chooser { IsChooser F.pre F.post chooser.now }
     requires points { ArePoints P.pre P.post Q.pre Q.post points.now }
     requires kind { kind_of chooser.now ≡ placement_of (telling_value telling) }
-    ensures { PerformsCommand (observed H.told H.faults host.old) (observed H.told H.faults host.new) (run_outcome manifest.now (telling_value telling.entry)) (ending_of result) }
+    ensures performs { PerformsCommand (observed H.told H.faults host.old) (observed H.told H.faults host.new) (run_outcome manifest.now (telling_value telling.entry)) (ending_of result) }
+    ensures held { RunHolds (telling_value telling.entry) manifest.now (H.told host.old) (ending_of result).status }
 {
     let steps = run_manifest(alloc, manifest, telling, chooser, points, host);
     settled(steps)
@@ -83,7 +85,8 @@ where
     requires chooser { IsChooser F.pre F.post chooser.now }
     requires points { ArePoints P.pre P.post Q.pre Q.post points.now }
     requires kind { kind_of chooser.now ≡ placement_of (telling_value telling) }
-    ensures { PerformsCommand (observed H.told H.faults host.old) (observed H.told H.faults host.new) (run_outcome manifest.now (telling_value telling.entry)) (settled_ending result) }
+    ensures performs { PerformsCommand (observed H.told H.faults host.old) (observed H.told H.faults host.new) (run_outcome manifest.now (telling_value telling.entry)) (settled_ending result) }
+    ensures held { RunHolds (telling_value telling.entry) manifest.now (H.told host.old) (settled_ending result).status }
 {
     let bytes = load_limited(alloc, manifest, MANIFEST_LIMIT, None, host)?;
     let manifest = read_manifest(alloc, &bytes)?;
@@ -128,7 +131,8 @@ where
     requires points { ArePoints P.pre P.post Q.pre Q.post points.now }
     requires kind { kind_of chooser.now ≡ placement_of (telling_value telling) }
     requires loaded { IsLoaded loaded }
-    ensures { Performs (observed H.told H.faults host.old) (observed H.told H.faults host.new) (files_outcome (telling_value telling.entry) (manifest_value loaded.manifest) (vec_texts loaded.files.items)) (settled_ending result) }
+    ensures performs { Performs (observed H.told H.faults host.old) (observed H.told H.faults host.new) (files_outcome (telling_value telling.entry) (manifest_value loaded.manifest) (vec_texts loaded.files.items)) (settled_ending result) }
+    ensures held { FilesHold (telling_value telling.entry) (manifest_value loaded.manifest) (vec_texts loaded.files.items) (settled_ending result).status }
 {
     let Loaded { manifest, files } = loaded;
     let kept = telling.kept();

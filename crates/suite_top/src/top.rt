@@ -10,6 +10,7 @@ ghost use Rattle.suite_top.specs.Telling.{telling_value};
 ghost use Rattle.suite_top.specs.Run.{run_outcome};
 ghost use Rattle.file_commands.specs.HostCourse.{PerformsCommand};
 ghost use Rattle.suite_top.specs.Call.{MeetsResult};
+ghost use Rattle.suite_top.specs.HeldItems.{RunHolds, KeepsHeld};
 
 use crate::demo_run::run_demo;
 use crate::placements::Placements;
@@ -42,7 +43,8 @@ where
     Q: Fn(&[Span], u32, u32) -> bool,
     requires place { ArePlacements A.pre A.post B.pre B.post C.pre C.post place.now }
     requires points { ArePoints P.pre P.post Q.pre Q.post points.now }
-    ensures { PerformsCommand (observed H.told H.faults host.old) (observed H.told H.faults host.new) (run_outcome manifest.now (telling_value telling.entry)) (ending_of result) }
+    ensures performs { PerformsCommand (observed H.told H.faults host.old) (observed H.told H.faults host.new) (run_outcome manifest.now (telling_value telling.entry)) (ending_of result) }
+    ensures held { RunHolds (telling_value telling.entry) manifest.now (H.told host.old) (ending_of result).status }
 {
     match telling.kind() {
         Kind::First => run_file(alloc, manifest, telling, &place.first, points, host),
@@ -66,7 +68,8 @@ where
     Q: Fn(&[Span], u32, u32) -> bool,
     requires place { ArePlacements A.pre A.post B.pre B.post C.pre C.post place.now }
     requires points { ArePoints P.pre P.post Q.pre Q.post points.now }
-    ensures { PerformsCommand (observed H.told H.faults host.old) (observed H.told H.faults host.new) (result_of (map string_bytes arguments.now)) (ending_of result) }
+    ensures performs { PerformsCommand (observed H.told H.faults host.old) (observed H.told H.faults host.new) (result_of (map string_bytes arguments.now)) (ending_of result) }
+    ensures held { KeepsHeld (map string_bytes arguments.now) (H.told host.old) (ending_of result).status }
 {
     match read_arguments(arguments) {
         Some(Command::Convert { elf, flt, stack }) => convert_file(alloc, elf, flt, stack, host),
@@ -125,6 +128,7 @@ where
         (observed H.told H.faults host.old) (observed H.told H.faults host.new)
         (observed_sink O.told O.faults O.shortages out.old) (observed_sink O.told O.faults O.shortages out.new)
         (observed_sink R.told R.faults R.shortages report.old) (observed_sink R.told R.faults R.shortages report.new) result }
+    ensures held { KeepsHeld (map string_bytes arguments.now) (H.told host.old) result }
     ensures host_read { result ≡ Status.HostRead → Rose (H.faults host.old) (H.faults host.new) }
     ensures host_write { result ≡ Status.HostWrite → Rose (H.faults host.old) (H.faults host.new) }
     ensures sink_write { result ≡ Status.SinkWrite → Rose (O.faults out.old) (O.faults out.new) ⊎ Rose (R.faults report.old) (R.faults report.new) }

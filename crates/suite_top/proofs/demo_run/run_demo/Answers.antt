@@ -24,7 +24,7 @@ pub returns : goal.returns
 returns g c =
     rw c.settled.ensures
     (is_demo c.args.programs (manifest_value c.in_ok-manifest.manifest) (vec_texts c.in_ok-files.files.items) _ _ _
-    c.in_ok-manifest.ensures c.in_ok-files.ensures c.run_files-steps.ensures)
+    c.in_ok-manifest.ensures c.in_ok-files.ensures c.run_files-steps.ensures.performs)
 
 pub returns-in_err-manifest : goal.returns-in_err-manifest
 returns-in_err-manifest g c =

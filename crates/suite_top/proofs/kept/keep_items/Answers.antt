@@ -14,17 +14,17 @@ ends_so : (wanted : Ending) (result : Result Answer AllocError) → HasEnding wa
 ends_so wanted (Ok answer) is = inl is
 ends_so wanted (Err error) is = inr refl
 
-pub returns-in_err-text-in-Some : goal.returns-in_err-text-in-Some
-returns-in_err-text-in-Some g c =
+pub returns-in_err-text-in-Some-clause-performs : goal.returns-in_err-text-in-Some-clause-performs
+returns-in_err-text-in-Some-clause-performs g c =
     let p = err_from_is_err_and c.from_residual.result c.from_residual.ensures.1 in
     rw p.1 (runs_out _ _ _ refl refl)
 
-pub returns-in_err-whole-in-Some : goal.returns-in_err-whole-in-Some
-returns-in_err-whole-in-Some g c =
+pub returns-in_err-whole-in-Some-clause-performs : goal.returns-in_err-whole-in-Some-clause-performs
+returns-in_err-whole-in-Some-clause-performs g c =
     let p = err_from_is_err_and c.from_residual-in_err-whole-in-Some.result c.from_residual-in_err-whole-in-Some.ensures.1 in
     rw p.1 (runs_out _ _ _ refl refl)
 
-pub returns-in-None : goal.returns-in-None
-returns-in-None g c =
+pub returns-in-None-clause-performs : goal.returns-in-None-clause-performs
+returns-in-None-clause-performs g c =
     let wanted = ending_behind (world c.args.machine).rest.console c.args.answer in
     rw c.in-None.is (ends_at_once _ wanted _ c.requires (ends_so wanted c.with_console-in-None.result c.with_console-in-None.ensures))

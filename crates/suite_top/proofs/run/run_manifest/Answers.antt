@@ -6,6 +6,7 @@ use Rattle.manifest_text.specs.Values.{item_value, manifest_value}
 use Rattle.manifest_text.proofs.Bounds.{manifests_are_reasonable}
 use Rattle.suite_top.specs.Telling.{telling_value}
 use Rattle.suite_top.proofs.RunEndings.{behind_manifest, without_manifest, refuses_manifest, without_files, behind_files}
+use Rattle.suite_top.proofs.HeldItems.{no_manifest, no_reading, no_files, behind_loads}
 use Rattle.suite_top.proofs.run.run_manifest.Goals as goal
 
 pub load_items-requires : goal.load_items-requires
@@ -21,21 +22,21 @@ run_files-requires-clause-loaded g c =
       files = sym (length-map files.items (λ v. v.items)) ∙ gave.count ∙ length-map manifest.items.items item_value;
     }
 
-pub returns-in_err-bytes : goal.returns-in_err-bytes
-returns-in_err-bytes g c =
+pub returns-in_err-bytes-clause-performs : goal.returns-in_err-bytes-clause-performs
+returns-in_err-bytes-clause-performs g c =
     let p = err_from_is_err_and c.from_residual.result c.from_residual.ensures.1 in
     rw (p.1, p.2) (without_manifest (telling_value c.args.telling) c.args.manifest.now _ _ _ c.in_err-bytes.ensures)
 
-pub returns-in_err-manifest : goal.returns-in_err-manifest
-returns-in_err-manifest g c =
+pub returns-in_err-manifest-clause-performs : goal.returns-in_err-manifest-clause-performs
+returns-in_err-manifest-clause-performs g c =
     let p = err_from_is_err_and c.from_residual-in_err-manifest.result c.from_residual-in_err-manifest.ensures.1 in
     let telling = telling_value c.args.telling in
     let ends = rw c.deref.ensures.value at c.in_err-manifest.ensures in
     rw (p.1, p.2)
     (behind_manifest telling c.args.manifest.now _ _ _ _ _ c.in_ok-bytes.ensures (refuses_manifest telling _ _ _ ends))
 
-pub returns-in_err-files : goal.returns-in_err-files
-returns-in_err-files g c =
+pub returns-in_err-files-clause-performs : goal.returns-in_err-files-clause-performs
+returns-in_err-files-clause-performs g c =
     let p = err_from_is_err_and c.from_residual-in_err-files.result c.from_residual-in_err-files.ensures.1 in
     let telling = telling_value c.args.telling in
     let reads = rw c.deref.ensures.value at c.in_ok-manifest.ensures in
@@ -44,10 +45,33 @@ returns-in_err-files g c =
     (behind_manifest telling c.args.manifest.now _ _ _ _ _ c.in_ok-bytes.ensures
     (without_files telling _ (manifest_value c.in_ok-manifest.manifest) reads _ _ _ ends))
 
-pub returns : goal.returns
-returns g c =
+pub returns-clause-performs : goal.returns-clause-performs
+returns-clause-performs g c =
     let telling = telling_value c.args.telling in
     let reads = rw c.deref.ensures.value at c.in_ok-manifest.ensures in
     let gave = rw c.deref-2.ensures.value at c.in_ok-files.ensures in
     behind_manifest telling c.args.manifest.now _ _ _ _ _ c.in_ok-bytes.ensures
-    (behind_files telling _ (manifest_value c.in_ok-manifest.manifest) reads _ _ _ _ _ gave c.run_files.ensures)
+    (behind_files telling _ (manifest_value c.in_ok-manifest.manifest) reads _ _ _ _ _ gave c.run_files.ensures.performs)
+
+-- ---- the items are held
+
+pub returns-in_err-bytes-clause-held : goal.returns-in_err-bytes-clause-held
+returns-in_err-bytes-clause-held g c =
+    let p = err_from_is_err_and c.from_residual.result c.from_residual.ensures.1 in
+    rw (p.1, p.2) (no_manifest (telling_value c.args.telling) c.args.manifest.now _ _ _ c.in_err-bytes.ensures)
+
+pub returns-in_err-manifest-clause-held : goal.returns-in_err-manifest-clause-held
+returns-in_err-manifest-clause-held g c =
+    let p = err_from_is_err_and c.from_residual-in_err-manifest.result c.from_residual-in_err-manifest.ensures.1 in
+    rw (p.1, p.2) (no_reading (telling_value c.args.telling) c.args.manifest.now _ _ _ c.in_err-manifest.ensures)
+
+pub returns-in_err-files-clause-held : goal.returns-in_err-files-clause-held
+returns-in_err-files-clause-held g c =
+    let p = err_from_is_err_and c.from_residual-in_err-files.result c.from_residual-in_err-files.ensures.1 in
+    rw (p.1, p.2) (no_files (telling_value c.args.telling) c.args.manifest.now _ _ _ _ _ _ c.in_ok-bytes.ensures c.in_err-files.ensures)
+
+pub returns-clause-held : goal.returns-clause-held
+returns-clause-held g c =
+    let reads = rw c.deref.ensures.value at c.in_ok-manifest.ensures in
+    let gave = rw c.deref-2.ensures.value at c.in_ok-files.ensures in
+    behind_loads (telling_value c.args.telling) c.args.manifest.now _ _ _ _ (manifest_value c.in_ok-manifest.manifest) _ _ c.in_ok-bytes.ensures reads gave c.run_files.ensures.held

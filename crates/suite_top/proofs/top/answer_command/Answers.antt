@@ -23,8 +23,8 @@ pub run_demo-requires-clause-few : goal.run_demo-requires-clause-few
 run_demo-requires-clause-few g c =
     (subst HasRanges (sym (rw c.in-Some-Demo.field-0-is at c.in-Some-Demo.ensures)) (read_in_ranges (map string_bytes c.args.arguments.now))).1
 
-pub returns-in-None : goal.returns-in-None
-returns-in-None g c = ends_with_usage _ (map string_bytes c.args.arguments.now) _ c.in-None.ensures (ends_with_line status.Usage c.usage.result usage_line _ c.usage.ensures c.early.ensures)
+pub returns-in-None-clause-performs : goal.returns-in-None-clause-performs
+returns-in-None-clause-performs g c = ends_with_usage _ (map string_bytes c.args.arguments.now) _ c.in-None.ensures (ends_with_line status.Usage c.usage.result usage_line _ c.usage.ensures c.early.ensures)
 
-pub returns-in-Some-Demo : goal.returns-in-Some-Demo
-returns-in-Some-Demo g c = performs_demo _ _ (map string_bytes c.args.arguments.now) c.in-Some-Demo.programs _ (rw c.in-Some-Demo.field-0-is at c.in-Some-Demo.ensures) c.run_demo.ensures
+pub returns-in-Some-Demo-clause-performs : goal.returns-in-Some-Demo-clause-performs
+returns-in-Some-Demo-clause-performs g c = performs_demo _ _ (map string_bytes c.args.arguments.now) c.in-Some-Demo.programs _ (rw c.in-Some-Demo.field-0-is at c.in-Some-Demo.ensures) c.run_demo.ensures
