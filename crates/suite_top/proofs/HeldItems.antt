@@ -19,7 +19,7 @@ use Rattle.file_commands.specs.declared.answer.Answer.{Answer}
 use Rattle.file_commands.specs.declared.status.Status.{Status}
 use Rattle.file_commands.specs.Ending.{Ending, done_ending, usage_ending, memory_ending, OrMemory}
 use Rattle.file_commands.specs.Outcome.{Request, load, store, Outcome, Inputs, failure_ending}
-use Rattle.file_commands.specs.Load.{at_once, behind, with_load}
+use Rattle.file_commands.specs.Load.{at_once, with_load}
 use Rattle.file_commands.specs.FileLoad.{GaveFile, EndsWithout}
 use Rattle.file_commands.specs.Items.{files_limit, with_items}
 use Rattle.file_commands.specs.ItemLoads.{GaveFiles}
@@ -35,9 +35,9 @@ use Rattle.suite_top.specs.Telling.{Telling, Report, mode_of, placement_of, kept
 use Rattle.suite_top.specs.KeptItems.{keep_of}
 use Rattle.suite_top.specs.Run.{start_line, opening, stopped_world}
 use Rattle.suite_top.specs.Steps.{EndsFor, manifest_ending, boot_ending}
-use Rattle.suite_top.specs.Opened.{AreThere, Opens, OpensFor, IsStop}
+use Rattle.suite_top.specs.Opened.{AreThere, OpensFor, IsStop}
 use Rattle.suite_top.specs.HeldItems.{RecordsHeld, StopsHeld, FilesHold, RunHolds, CommandHolds, KeepsHeld}
-use Rattle.suite_top.proofs.Opened.{behind_all, items_there, within, items_within}
+use Rattle.suite_top.proofs.Opened.{items_there, within, items_within}
 
 -- ---- a status that is no stop
 
