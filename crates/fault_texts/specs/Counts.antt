@@ -1,6 +1,6 @@
 -- How many faults there are of each symbol and of each kind.
-use Rattle.std.specs.Prelude.{ℕ, ◌+◌, ◌-◌, ◌*◌, ◌^◌, ◌==◌, nat_lt, List, [], ◌∷◌, ◌++◌, map, filter, fold, length, count_by, codes, bytes_eq, decimal, if◌then◌else◌}
-use Rattle.std.specs.List.{range_with_len, flat_map}
+use Rattle.std.specs.Prelude.{ℕ, zero, suc, ◌+◌, ◌*◌, ◌^◌, ◌==◌, nat_lt, List, [], ◌∷◌, ◌++◌, map, filter, fold, take, length, count_by, codes, bytes_eq, decimal, if◌then◌else◌}
+use Rattle.std.specs.List.{flat_map}
 use Rattle.call_log.specs.Lines.{joined}
 use Rattle.elf32_reader.specs.declared.fault.ElfFault.{ElfFault}
 use Rattle.elf32_reader.specs.declared.fault.ElfFault.TheVariants as elf
@@ -33,12 +33,21 @@ each_once ss = fold with_subject [] ss
 abbrev pub count_in : List Subject → Subject → Count
 count_in ss s = record { subject = s; count = count_by (λ r. order_of r == order_of s) ss }
 
+-- from n down to 0
+abbrev pub down_from : ℕ → List ℕ
+down_from zero = 0 ∷ []
+down_from (suc n) = suc n ∷ down_from n
+
 -- counts by descending number, each of at most n; those of one number stay in their order
 abbrev pub by_count : ℕ → List Count → List Count
-by_count n cs = flat_map (λ k. filter (λ c. c.count == n - k) cs) (range_with_len 0 (n + 1))
+by_count n cs = flat_map (λ k. filter (λ c. c.count == k) cs) (down_from n)
 
 unfoldable pub counts_of : List Subject → List Count
 counts_of ss = by_count (length ss) (map (count_in ss) (each_once ss))
+
+-- those of the first i subjects, with how often they are among all
+abbrev pub counts_before : List Subject → ℕ → List Count
+counts_before ss i = map (count_in ss) (each_once (take i ss))
 
 -- ---- kinds
 

@@ -3,10 +3,12 @@
 -- Words: the faults by their words.
 -- Lines: the line of each fault.
 -- Counts: how many faults there are of each symbol and of each kind.
+-- Kinds: the lines of kinds of faults.
 -- Listing: all faults of a file as a text.
 pub mod Names
 pub mod Symbols
 pub mod Words
 pub mod Lines
 pub mod Counts
+pub mod Kinds
 pub mod Listing

@@ -5,14 +5,16 @@
 
 mod counts;
 mod entry;
+mod kinds;
 mod lines;
 mod names;
 mod sights;
 mod symbols;
 mod words;
 
-pub use counts::{Count, Subject};
+pub use counts::{Count, Subject, counts_of};
 pub use entry::{EntryAt, entry_of};
+pub use kinds::{Kind, push_kinds};
 pub use lines::{
     push_head_line, push_header_line, push_layout_line, push_overlap_line, push_reloc_line,
     push_target_line,
