@@ -1,22 +1,19 @@
 -- What a run records of one space is the stay of that space, and its text is what is stored.
-use Rattle.std.proofs.Common.{◌≡◌, ℕ, zero, suc, ◌+◌, ◌*◌, ◌^◌, ◌<◌, ◌≤◌, true, List, [], ◌∷◌, ◌++◌, map, filter, Option, Some, None, refl, sym, ap, subst, ◌∙◌, arith}
-use Rattle.std.specs.Prelude.{sum_by, option_map, slice_get}
+use Rattle.std.proofs.Common.{◌≡◌, ℕ, zero, suc, ◌+◌, ◌≤◌, true, List, [], ◌∷◌, ◌++◌, map, filter, Option, Some, None, refl, ap, subst, ◌∙◌, arith}
+use Rattle.std.specs.Prelude.{option_map, slice_get}
 use Rattle.std.specs.FinMap.{insert}
 use Rattle.host_io.specs.Host.{Told}
 use Rattle.page_runs.specs.declared.place.Kind.{Kind}
 use Rattle.quantum_sched.specs.declared.Quantum.{Quantum}
-use Rattle.call_log.specs.Notes.{CallEntry, Note}
-use Rattle.items_text.specs.Items.{ItemValue, ItemsValue}
+use Rattle.items_text.specs.Items.{ItemValue}
 use Rattle.manifest_text.specs.Values.{Item, Manifest}
 use Rattle.manifest_text.specs.Laws.{Reasonable}
-use Rattle.machine_world.specs.World.{Launch, Recording, World}
+use Rattle.machine_world.specs.World.{World}
 use Rattle.machine_world.specs.Recordings.{is_kept, most_count}
 use Rattle.machine_world.specs.Boot.{empty_world}
-use Rattle.machine_world.specs.Turns.{turns}
-use Rattle.alone_laws.specs.Stays.{Stay, stays_along, first_stays}
+use Rattle.alone_laws.specs.Stays.{Stay, first_stays}
 use Rattle.alone_laws.proofs.Lists.{eqb_same}
 use Rattle.recording_laws.specs.Items.{with_lists, launch_in, AreRecorded}
-use Rattle.recording_laws.specs.Homes.{calls_at}
 use Rattle.recording_laws.proofs.Runs.{boots_record, runs_record, recordings_tell}
 use Rattle.recorded_items.specs.Recorded.{kept_space, calls_of, told_item, items_with, recorded}
 use Rattle.region_watch.specs.declared.mode.Mode.TheVariants.{Halt}
@@ -29,14 +26,14 @@ use Rattle.suite_top.specs.Telling.{Report}
 use Rattle.suite_top.specs.KeptItems.{text_or_none, kept_text}
 use Rattle.suite_top.specs.Result.{command_outcome}
 use Rattle.suite_top.specs.Run.{start_line, opening, run_outcome}
-use Rattle.suite_top.specs.Call.{Call, outcome_of}
+use Rattle.suite_top.specs.Call.{outcome_of}
 use Rattle.suite_top.proofs.Booted.{kept_boot, no_event_yet, events_fit}
-use Rattle.command_laws.specs.Booted.{Booted, booted_turns, last_world, booted_stays}
+use Rattle.command_laws.specs.Booted.{Booted, last_world, booted_stays}
 use Rattle.command_laws.specs.RunLaws.{Opens, opened_outcome, IsStop}
 use Rattle.command_laws.specs.Beside.{halting}
-use Rattle.command_laws.specs.ItemsLaws.{items_of_stay, stay_at, stay_text, TextsAreOfStays, IsKeeping, ItemsAreStored}
+use Rattle.command_laws.specs.ItemsLaws.{items_of_stay, stay_at, TextsAreOfStays, ItemsAreStored}
 use Rattle.command_laws.proofs.KeptWorlds.{keep_stays, events_most}
-use Rattle.command_laws.proofs.OneFileLaws.{Shows, shows}
+use Rattle.command_laws.proofs.OneFileLaws.{shows}
 use Rattle.command_laws.proofs.Headline.{stops_answer}
 use Rattle.command_laws.proofs.BootedRuns.{sound}
 use Rattle.command_laws.proofs.RunLaws.{reasonable, runs_where_it_opens, opens_where_it_stops}

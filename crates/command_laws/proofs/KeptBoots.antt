@@ -1,5 +1,5 @@
 -- A run that keeps items boots as the same run without them: from worlds that differ in what is recorded alone.
-use Rattle.std.proofs.Common.{◌≡◌, ℕ, Bool, true, false, List, [], ◌∷◌, map, Option, Some, None, Result, Ok, Err, ◌⊎◌, inl, inr, refl, sym, ap, subst}
+use Rattle.std.proofs.Common.{◌≡◌, ℕ, Bool, true, false, List, [], ◌∷◌, map, Option, Some, None, Result, Ok, Err, inl, inr, refl, sym, ap, subst}
 use Rattle.page_runs.specs.declared.place.Kind.{Kind}
 use Rattle.manifest_text.specs.Values.{Manifest}
 use Rattle.call_log.specs.declared.errno.Errno.{Errno}
@@ -17,7 +17,7 @@ use Rattle.run_setup.specs.Brought.{Brought, FaultAt, nothing_brought, all_broug
 use Rattle.file_commands.specs.Arguments.{KeptItems, RunOptions}
 use Rattle.file_commands.specs.Outcome.{Request, Outcome, after}
 use Rattle.suite_top.specs.Telling.{Telling, Report}
-use Rattle.suite_top.specs.Run.{start_line, opening, boot_fault, booted_outcome, brought_outcome, files_outcome}
+use Rattle.suite_top.specs.Run.{start_line, opening, booted_outcome, brought_outcome, files_outcome}
 use Rattle.suite_top.proofs.RunOutcomes.{told_status}
 use Rattle.machine_world.specs.Turns.{turns}
 use Rattle.command_laws.specs.RunLaws.{IsStop}
