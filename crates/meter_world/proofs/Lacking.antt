@@ -1,8 +1,8 @@
 -- What isn't granted lacks a run, and no other call asks in vain.
-use Rattle.std.proofs.Common.{◌≡◌, ℕ, suc, ◌==◌, Bool, true, false, if◌then◌else◌, List, [], ◌∷◌, Option, Some, None, Result, Ok, Err, inl, inr, is_some, option_map, slice_get, refl, sym, ap, subst, ◌∙◌}
+use Rattle.std.proofs.Common.{◌≡◌, ℕ, ◌==◌, Bool, true, false, if◌then◌else◌, List, Option, Some, None, Result, Ok, Err, inl, inr, is_some, option_map, refl, sym, ap, subst, ◌∙◌}
 use Rattle.page_runs.specs.declared.place.Kind.{Kind}
 use Rattle.page_runs.specs.declared.run.Run.{Run}
-use Rattle.page_runs.specs.Place.{place, first_of, IsPlace, Placed}
+use Rattle.page_runs.specs.Place.{place, first_of, Placed}
 use Rattle.page_runs.proofs.Places.{placed}
 use Rattle.call_log.specs.declared.errno.Errno.{Errno}
 use Rattle.call_log.specs.Sent.{has_zero}

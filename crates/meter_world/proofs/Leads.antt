@@ -1,11 +1,11 @@
 -- The steps of a run lead where its turns lead: event by event, turn by turn.
-use Rattle.std.proofs.Common.{◌≡◌, ℕ, zero, suc, ◌==◌, Bool, true, false, if◌then◌else◌, List, [], ◌∷◌, ◌++◌, map, length, Option, Some, None, refl, sym, ap, subst, ◌∙◌}
+use Rattle.std.proofs.Common.{◌≡◌, ℕ, zero, suc, ◌==◌, Bool, true, false, if◌then◌else◌, List, [], ◌∷◌, ◌++◌, map, length, Option, Some, None, refl, sym, ap, ◌∙◌}
 use Rattle.quantum_sched.specs.declared.Quantum.{Quantum}
 use Rattle.quantum_sched.specs.Picked.{picked}
 use Rattle.machine_world.specs.World.{World}
 use Rattle.machine_world.specs.Families.{ready_pids}
 use Rattle.machine_world.specs.Event.{Outcome, went, strays, full, idle, event}
-use Rattle.machine_world.specs.Turns.{End, all_ended, stuck, out_of_quanta, Walk, remains_at, turn, turned, going_on, quantum_turn, none_runs, last_end, turns}
+use Rattle.machine_world.specs.Turns.{End, all_ended, stuck, Walk, remains_at, turn, turned, going_on, quantum_turn, last_end, turns}
 use Rattle.meter_world.specs.Steps.{Step, world_behind, by_event, turn_steps, behind_turn, quantum_steps, steps}
 use Rattle.meter_world.specs.Meter.{last_of}
 use Rattle.meter_world.specs.Laws.{noted_end, StepsLead}

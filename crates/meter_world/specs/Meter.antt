@@ -1,7 +1,7 @@
 -- What a meter tells of a run: of each program that was loaded how deep its stack came and how high its break, and of all how much memory
 -- they held at once, and why requests failed (the stack grows downward, and x2 is its pointer: RISC-V ELF psABI, "Integer Register
 -- Convention"; nothing below it is in use).
-use Rattle.std.specs.Prelude.{ℕ, ◌+◌, ◌-◌, ◌*◌, ◌==◌, Bool, true, false, not, ◌&&◌, nat_le, if◌then◌else◌, List, [], ◌∷◌, ◌++◌, map, filter, length, Option, Some, None}
+use Rattle.std.specs.Prelude.{ℕ, ◌+◌, ◌-◌, ◌*◌, ◌==◌, Bool, false, not, ◌&&◌, nat_le, if◌then◌else◌, List, [], ◌∷◌, ◌++◌, map, filter, length, Option, Some, None}
 use Rattle.std.specs.List.{list_any}
 use Rattle.rv32im_step.specs.Registers.{register}
 use Rattle.call_log.specs.Notes.{LoadEntry}

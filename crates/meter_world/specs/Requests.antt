@@ -1,6 +1,6 @@
 -- What a program asks of memory: a run of free pages for its block, or for a mapping that shares no copy ("No-MMU memory mapping
 -- support", Documentation/admin-guide/mm/nommu-mmap.rst; mmap(2), execve(2)).
-use Rattle.std.specs.Prelude.{ℕ, ◌+◌, ◌-◌, ◌==◌, Bool, not, ◌&&◌, nat_le, nat_lt, if◌then◌else◌, List, [], ◌∷◌, ◌++◌, map, filter, length, sum, is_some, Option, Some, None, Result, Ok, Err}
+use Rattle.std.specs.Prelude.{ℕ, ◌+◌, ◌-◌, ◌==◌, Bool, not, ◌&&◌, nat_le, nat_lt, if◌then◌else◌, List, [], ◌∷◌, ◌++◌, map, sum, is_some, Option, Some, None, Result, Ok, Err}
 use Rattle.rv32im_step.specs.Meaning.{Meaning, next, call, trap, refused}
 use Rattle.page_runs.specs.declared.run.Run.{Run}
 use Rattle.page_runs.specs.Place.{place}

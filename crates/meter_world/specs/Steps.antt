@@ -11,7 +11,7 @@ use Rattle.flat_loader.specs.Alone.{number_of, args_of}
 use Rattle.machine_world.specs.World.{Process, LiveSpace, World, pid_of, id_of}
 use Rattle.machine_world.specs.Families.{ready_pids}
 use Rattle.machine_world.specs.Event.{Outcome, went, strays, full, idle, event}
-use Rattle.machine_world.specs.Turns.{End, turn, turns}
+use Rattle.machine_world.specs.Turns.{End, turn}
 use Rattle.memory_world.specs.Physical.{Physical, After, after, no_room, nobody, next_meaning, event_in, turn_in}
 use Rattle.meter_world.specs.Requests.{need_meant}
 
