@@ -73,11 +73,7 @@ fn accept(alloc: Global, flat: &Flat) -> Result<Answer, AllocError>
 }
 
 /// The answer for an ELF file that isn't converted, all of whose faults are told.
-fn refuse_listed(
-    alloc: Global,
-    bytes: &[u8],
-    refusal: &Refusal,
-) -> Result<Answer, AllocError>
+fn refuse_listed(alloc: Global, bytes: &[u8], refusal: &Refusal) -> Result<Answer, AllocError>
     ensures ending { OrMemory (listed_ending (faults_text bytes.now) (refusal_tail refusal.now)) (ending_of result) }
     ensures memory { refusal.now ≡ Refusal.Memory → ending_of result ≡ memory_ending }
 {
