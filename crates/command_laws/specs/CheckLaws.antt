@@ -2,10 +2,13 @@
 use Rattle.std.specs.Prelude.{◌≡◌, ◌⊎◌, ◌++◌, ℕ, ◌<◌, ◌≤◌, Bool, true, false, List, Some, None, ◌∷◌, [], length}
 use Rattle.std.specs.FinMap.{get}
 use Rattle.host_io.specs.Host.{Told}
+use Rattle.elf2flt_tool.specs.declared.fault.Fault.{Fault}
 use Rattle.elf2flt_tool.specs.Fault.{fault}
+use Rattle.elf2flt_tool.specs.Faults.{refusal_of}
+use Rattle.fault_texts.specs.Lines.{fault_line}
 use Rattle.file_commands.specs.declared.status.Status.TheVariants.{Done, Refused, Memory}
 use Rattle.file_commands.specs.Sizes.{sizes}
-use Rattle.file_commands.specs.Texts.{check_line, too_long_tail, refused_line}
+use Rattle.file_commands.specs.Texts.{refusal_tail, check_line, too_long_tail, refused_line}
 use Rattle.file_commands.specs.Outcome.{load}
 use Rattle.file_commands.specs.OneFile.{file_limit}
 use Rattle.file_commands.specs.Check.{faults_text}
@@ -57,6 +60,10 @@ pub record IsCheckRefused (c : Call) (t t_after : Told) (elf : List ℕ) (all : 
 
 abbrev pub CheckIsRefused : Type 0
 CheckIsRefused = (c : Call) (t t_after : Told) (elf : List ℕ) (all : Bool) → IsCheck c t t_after elf all → c.status ≡ Refused → IsCheckRefused c t t_after elf all
+
+-- the line of a fault begins with the tail of its refusal, so that of the first with the one that is told
+abbrev pub LinesBeginWithTails : Type 0
+LinesBeginWithTails = (e : List ℕ) (f : Fault) → (rest : List ℕ) × (fault_line e f ≡ refusal_tail (refusal_of f) ++ rest)
 
 -- where ELF has no fault, and none is counted, the command is carried out, or the call was out of memory
 abbrev pub CheckCompletes : Type 0
