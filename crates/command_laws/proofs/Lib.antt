@@ -1,4 +1,5 @@
 -- OneFileLaws, ConvertLaws, CheckLaws, ListLaws, UnromfsLaws: the laws of the commands of one file.
+-- FaultLines: the lines of all faults.
 -- RunLaws: when a run reaches its machine.
 -- RomfsLaws: the laws of `romfs`.
 -- ReplayLaws: the laws of `replay`.
@@ -13,6 +14,7 @@
 mod OneFileLaws
 mod ConvertLaws
 mod CheckLaws
+mod FaultLines
 mod ListLaws
 mod UnromfsLaws
 mod ReplayLaws

@@ -62,7 +62,7 @@ found limit name rest (Some e) = by_test (nat_lt limit (length e)) refl
 
 module _ (c : Call) (t t_after : Told) (over : OverFiles c t t_after) (name : List ℕ) (rest : List ℕ → Outcome) (is : outcome_of c ≡ after (load name) (with_found name (get t.files name) rest)) where
   -- the outcome behind the load is x
-  shows_behind : (x : Outcome) → with_found name (get t.files name) rest ≡ x → IsAnswer c.status → Shows c t t_after (after (load name) x)
+  pub shows_behind : (x : Outcome) → with_found name (get t.files name) rest ≡ x → IsAnswer c.status → Shows c t t_after (after (load name) x)
   shows_behind x w answer = shows c t t_after over (after (load name) x) (is ∙ ap (after (load name)) w) answer
 
   -- Refused: by the tail of each file that `rest` refuses

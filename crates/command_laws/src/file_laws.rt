@@ -1,7 +1,7 @@
 //! Laws over every call of the commands that run nothing. No code runs.
 ghost use Rattle.file_commands.specs.Sizes.{HeaderHasSizes};
 ghost use Rattle.command_laws.specs.ConvertLaws.{ConvertChangesOneFile, ConvertIsDone, ConvertIsRefused, ConvertCompletes};
-ghost use Rattle.command_laws.specs.CheckLaws.{CheckAsksOneLoad, CheckIsDone, CheckIsRefused, CheckCompletes};
+ghost use Rattle.command_laws.specs.CheckLaws.{CheckAsksOneLoad, CheckIsDone, CheckIsRefused, LinesBeginWithTails, CheckCompletes};
 ghost use Rattle.command_laws.specs.RomfsLaws.{RomfsChangesOneFile, RomfsIsDone, RomfsIsRefused, RomfsCompletes};
 ghost use Rattle.command_laws.specs.UnromfsLaws.{UnromfsAsksOneLoad, UnromfsIsDone, UnromfsIsRefused, UnromfsCompletes};
 ghost use Rattle.command_laws.specs.ReplayLaws.{ReplayAsksItsFiles, ReplayIsDone, ReplayIsRefuted, ReplayIsRefused, ReplayCompletes};
@@ -21,6 +21,7 @@ pub fn check_law()
     ensures one_load { CheckAsksOneLoad }
     ensures done { CheckIsDone }
     ensures refused { CheckIsRefused }
+    ensures tails { LinesBeginWithTails }
     ensures complete { CheckCompletes }
 {}
 

@@ -21,6 +21,10 @@ use Rattle.psabi_relocs.specs.Field.{high_ends, ends_of, absolute, fields}
 use Rattle.elf2flt_tool.specs.Relocs.{fields_in, fields_of}
 use Rattle.elf2flt_tool.specs.Word.{numbered, words, records}
 use Rattle.elf2flt_tool.specs.Fault.{fault}
+use Rattle.elf2flt_tool.specs.Faults.{faults}
+use Rattle.fault_texts.specs.Lines.{fault_line}
+use Rattle.fault_texts.specs.Counts.{counts_of as subject_counts, kind_lines}
+use Rattle.fault_texts.specs.Listing.{listing}
 use Rattle.elf2flt_tool.proofs.Samples.{one_word, one_word_flat, flat-one_word, fault-one_word}
 use Rattle.machine_world.specs.Turns.{all_ended, stuck, out_of_quanta, stray_at, log_full}
 use Rattle.byte_words.specs.declared.access.AccessKind.TheVariants.{Load}
@@ -66,6 +70,9 @@ lists inputs = result_of (codes "list" ∷ codes "a.flt" ∷ []) inputs
 abbrev checks : Inputs → Outcome
 checks inputs = result_of (codes "check" ∷ codes "a.elf" ∷ []) inputs
 
+abbrev lists_faults : Inputs → Outcome
+lists_faults inputs = result_of (codes "check" ∷ codes "a.elf" ∷ codes "--all" ∷ []) inputs
+
 abbrev converts : Inputs → Outcome
 converts inputs = result_of (codes "convert" ∷ codes "a.elf" ∷ codes "a.flt" ∷ []) inputs
 
@@ -93,6 +100,16 @@ empty-list = refl
 empty-check : checks (everywhere []) ≡ early (load (codes "a.elf") ∷ []) status.Refused (codes "refused: elf 1 Short\n")
 unfolding header_fault elf_fault fault
 empty-check = refl
+
+-- with all its faults
+empty-listed :
+    lists_faults (everywhere [])
+    ≡ record {
+      requests = load (codes "a.elf") ∷ [];
+      ending = record { status = status.Refused; out = codes "elf 1 Short\ncount elf 1 Short 1\nfaults 1\n"; report = codes "refused: elf 1 Short\n" };
+    }
+unfolding digits header_fault elf_fault fault faults fault_line subject_counts kind_lines listing
+empty-listed = refl
 
 empty-convert : converts (everywhere []) ≡ early (load (codes "a.elf") ∷ []) status.Refused (codes "refused: elf 1 Short\n")
 unfolding header_fault elf_fault fault
@@ -127,6 +144,10 @@ done-check :
     ≡ record { requests = load (codes "a.elf") ∷ []; ending = record { status = status.Done; out = codes "accepted text 64 data 12 bss 0 records 1\n"; report = [] } }
 unfolding digits
 done-check = rw fault-one_word (ap (λ (s : Sizes). after (load (codes "a.elf")) (at_once (done_ending (check_line s)))) sizes-one_word)
+
+-- of a file without a fault nothing is listed
+done-listed : lists_faults (everywhere one_word) ≡ checks (everywhere one_word)
+done-listed = rw fault-one_word refl
 
 -- ---- reports
 

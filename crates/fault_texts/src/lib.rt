@@ -7,6 +7,7 @@ mod counts;
 mod entry;
 mod kinds;
 mod lines;
+mod listings;
 mod names;
 mod sights;
 mod symbols;
@@ -19,6 +20,7 @@ pub use lines::{
     push_head_line, push_header_line, push_layout_line, push_overlap_line, push_reloc_line,
     push_target_line,
 };
+pub use listings::listing;
 pub use names::push_shown;
 pub use sights::Sight;
 pub use symbols::{push_home, push_section, push_symbol};

@@ -3,7 +3,7 @@ use Rattle.std.proofs.Common.{◌≡◌, ℕ, ◌≤◌, Bool, true, false, cond
 use Rattle.std.specs.Prelude.{codes, bytes_eq, option_map}
 use Rattle.file_commands.specs.declared.command.Format.{Format}
 use Rattle.file_commands.specs.declared.command.TraceOptions.{TraceOptions}
-use Rattle.file_commands.specs.Arguments.{RunOptions, Invocation, convert, list, check, run, trace, unromfs, replay, demo, least_stack, most_stack, least_programs, most_programs, stack_of, programs_of, only, romfs_of, convert_of, run_options, run_of, trace_options, trace_of, format_of_word, replay_of, demo_of, command_of}
+use Rattle.file_commands.specs.Arguments.{RunOptions, Invocation, convert, list, check, run, trace, unromfs, replay, demo, least_stack, most_stack, least_programs, most_programs, stack_of, programs_of, only, romfs_of, convert_of, check_of, run_options, run_of, trace_options, trace_of, format_of_word, replay_of, demo_of, command_of}
 use Rattle.file_commands.proofs.SpelledNumbers.{is_spelled}
 
 -- what the commands ask for of their numbers
@@ -37,9 +37,11 @@ list_has : (o : Option (List ℕ)) → HasRanges (option_map list o)
 list_has None = tt
 list_has (Some flt) = tt
 
-check_has : (o : Option (List ℕ)) → HasRanges (option_map check o)
-check_has None = tt
-check_has (Some elf) = tt
+check_has : (words : List (List ℕ)) → HasRanges (check_of words)
+check_has [] = tt
+check_has (elf ∷ []) = tt
+check_has (elf ∷ option ∷ []) = either (bytes_eq option (codes "--all")) (Some (check elf true)) None tt tt
+check_has (elf ∷ option ∷ word ∷ words) = tt
 
 unromfs_has : (o : Option (List ℕ)) → HasRanges (option_map unromfs o)
 unromfs_has None = tt
@@ -122,5 +124,5 @@ read_in_ranges [] = tt
 read_in_ranges (first ∷ words) =
     either (bytes_eq first (codes "convert")) (convert_of words) _ (convert_has words)
     (either (bytes_eq first (codes "list")) (option_map list (only words)) _ (list_has (only words))
-    (either (bytes_eq first (codes "check")) (option_map check (only words)) _ (check_has (only words))
+    (either (bytes_eq first (codes "check")) (check_of words) _ (check_has words)
     (either (bytes_eq first (codes "run")) (run_of words) _ (run_has words) (from_trace first words))))

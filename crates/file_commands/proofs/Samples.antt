@@ -54,8 +54,18 @@ zero_in_front : command_of (codes "convert" ∷ codes "a" ∷ codes "b" ∷ code
 unfolding digits
 zero_in_front = refl
 
-check_is_read : command_of (codes "check" ∷ codes "a.elf" ∷ []) ≡ Some (check (codes "a.elf"))
+check_is_read : command_of (codes "check" ∷ codes "a.elf" ∷ []) ≡ Some (check (codes "a.elf") false)
 check_is_read = refl
+
+all_faults_are_asked : command_of (codes "check" ∷ codes "a.elf" ∷ codes "--all" ∷ []) ≡ Some (check (codes "a.elf") true)
+all_faults_are_asked = refl
+
+-- no file, another option, the option before the file, and twice
+no_check :
+    (command_of (codes "check" ∷ []) ∷ command_of (codes "check" ∷ codes "a.elf" ∷ codes "all" ∷ []) ∷ command_of (codes "check" ∷ codes "--all" ∷ codes "a.elf" ∷ [])
+    ∷ command_of (codes "check" ∷ codes "a.elf" ∷ codes "--all" ∷ codes "--all" ∷ []) ∷ [])
+    ≡ (None ∷ None ∷ None ∷ None ∷ [])
+no_check = refl
 
 run_is_read : command_of (codes "run" ∷ codes "a" ∷ []) ≡ Some (run (codes "a") (record { log = false; mode = Halt; kind = First; kept = None; watch = None }))
 unfolding run_options

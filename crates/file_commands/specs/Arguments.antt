@@ -36,7 +36,7 @@ pub record RunOptions : Type 0 where
 pub data Invocation : Type 0 where
   convert : (elf flt : List ℕ) (stack : ℕ) → Invocation
   list : (flt : List ℕ) → Invocation
-  check : (elf : List ℕ) → Invocation
+  check : (elf : List ℕ) (all : Bool) → Invocation
   run : (manifest : List ℕ) (options : RunOptions) → Invocation
   trace : (manifest : List ℕ) (options : TraceOptions) → Invocation
   romfs : (manifest image : List ℕ) → Invocation
@@ -138,6 +138,12 @@ convert_of (elf ∷ flt ∷ []) = Some (convert elf flt default_stack)
 convert_of (elf ∷ flt ∷ option ∷ number ∷ []) = if bytes_eq option (codes "--stack") then option_map (convert elf flt) (stack_of number) else None
 convert_of words = None
 
+-- `ELF` and `ELF --all`
+abbrev pub check_of : List (List ℕ) → Option Invocation
+check_of (elf ∷ []) = Some (check elf false)
+check_of (elf ∷ option ∷ []) = if bytes_eq option (codes "--all") then Some (check elf true) else None
+check_of words = None
+
 -- ---- options, each of which is given or not: what it says, and the words behind it; or nothing, where its own words are wrong
 
 abbrev pub Read : Type 0 → Type 0
@@ -230,14 +236,14 @@ abbrev pub demo_of : List (List ℕ) → Option Invocation
 demo_of (number ∷ []) = option_map demo (programs_of number)
 demo_of words = None
 
--- `convert` with its words, `list FLT`, `check ELF`, `run` and `trace` with their words, `romfs MANIFEST IMG`, `unromfs IMG`, `replay` with
+-- `convert` with its words, `list FLT`, `check`, `run` and `trace` with their words, `romfs MANIFEST IMG`, `unromfs IMG`, `replay` with
 -- its words and `demo N`; any other arguments are no command
 abbrev pub command_of : List (List ℕ) → Option Invocation
 command_of [] = None
 command_of (first ∷ words) =
     if bytes_eq first (codes "convert") then convert_of words
     else if bytes_eq first (codes "list") then option_map list (only words)
-    else if bytes_eq first (codes "check") then option_map check (only words)
+    else if bytes_eq first (codes "check") then check_of words
     else if bytes_eq first (codes "run") then run_of words
     else if bytes_eq first (codes "trace") then trace_of words
     else if bytes_eq first (codes "romfs") then romfs_of words
@@ -272,7 +278,7 @@ options_value o = record { log = o.log; mode = o.mode; kind = o.kind; kept = opt
 abbrev pub invocation : Command → Invocation
 invocation (command.Convert elf flt stack) = convert elf.now flt.now stack
 invocation (command.List flt) = list flt.now
-invocation (command.Check elf) = check elf.now
+invocation (command.Check elf all) = check elf.now all
 invocation (command.Run manifest options) = run manifest.now (options_value options)
 invocation (command.Trace manifest options) = trace manifest.now options
 invocation (command.Romfs manifest image) = romfs manifest.now image.now

@@ -30,6 +30,10 @@ usage_ending = early_ending status.Usage usage_line
 abbrev pub refused_ending : List ℕ → Ending
 refused_ending tail = early_ending status.Refused (refused_line tail)
 
+-- the input has faults, all of which were asked for: their listing goes to `out`, and the line of the first one to `report`
+abbrev pub listed_ending : (listing tail : List ℕ) → Ending
+listed_ending listing tail = record { status = status.Refused; out = listing; report = refused_line tail }
+
 -- out of memory
 abbrev pub memory_ending : Ending
 memory_ending = early_ending status.Memory memory_line

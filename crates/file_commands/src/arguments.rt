@@ -1,6 +1,6 @@
 //! The table of commands.
 ghost use Rattle.std.specs.Prelude.{◌≡◌, ◌≤◌, ◌↔◌, IsTrue, Some, map, option_map, string_bytes};
-ghost use Rattle.file_commands.specs.Arguments.{is_between, StartsWell, number_of, kind_of_word, point_of_word, only, romfs_of, convert_of, flag_of, mode_where, place_of, items_of, kept_of, watch_of, process_of, run_options, run_of, trace_options, trace_of, format_of_word, replay_of, demo_of, command_of, given_value, kept_value, kept_given, options_value, invocation};
+ghost use Rattle.file_commands.specs.Arguments.{is_between, StartsWell, number_of, kind_of_word, point_of_word, only, romfs_of, convert_of, check_of, flag_of, mode_where, place_of, items_of, kept_of, watch_of, process_of, run_options, run_of, trace_options, trace_of, format_of_word, replay_of, demo_of, command_of, given_value, kept_value, kept_given, options_value, invocation};
 
 use crate::command::{Command, Format, KeptItems, RunOptions, TraceOptions};
 use page_runs::Kind;
@@ -117,6 +117,17 @@ fn read_convert(words: &[String]) -> Option<Command<'_>>
             let stack = read_number(number, LEAST_STACK, MOST_STACK)?;
             Some(Command::Convert { elf, flt, stack })
         }
+        _ => None,
+    }
+}
+
+/// The words behind `check`.
+fn read_check(words: &[String]) -> Option<Command<'_>>
+    ensures { option_map invocation result ≡ check_of (map string_bytes words.now) }
+{
+    match words {
+        [elf] => Some(Command::Check { elf, all: false }),
+        [elf, option] if option.as_str() == "--all" => Some(Command::Check { elf, all: true }),
         _ => None,
     }
 }
@@ -306,10 +317,7 @@ pub fn read_arguments(arguments: &[String]) -> Option<Command<'_>>
             let flt = only(words)?;
             Some(Command::List { flt })
         }
-        "check" => {
-            let elf = only(words)?;
-            Some(Command::Check { elf })
-        }
+        "check" => read_check(words),
         "run" => read_run(words),
         "trace" => read_trace(words),
         "romfs" => read_romfs(words),

@@ -61,9 +61,10 @@ pub enum Command<'a> {
     List {
         flt: &'a str,
     },
-    /// `check ELF`.
+    /// `check ELF`, and with `--all` every fault.
     Check {
         elf: &'a str,
+        all: bool,
     },
     /// `run MANIFEST` with its options.
     Run {

@@ -1,12 +1,11 @@
 //! The texts that users see; those of a listing stand in `listing`, those of an image in `images`, those of a replay in `replays`.
 ghost use Rattle.std.specs.Prelude.{◌≡◌, IfOk, IsErr, string_bytes};
-ghost use Rattle.file_commands.specs.Texts.{usage_line, cannot_read_line, cannot_write_line, refused_line, elf_fault_words, layout_fault_words, reloc_fault_words, address_words, reloc_tail, refusal_tail, parts_text, convert_line, check_line, demo_line};
+ghost use Rattle.file_commands.specs.Texts.{usage_line, cannot_read_line, cannot_write_line, refused_line, address_words, reloc_tail, refusal_tail, parts_text, convert_line, check_line, demo_line};
 ghost use Rattle.file_commands.specs.Sizes.{sizes_of};
 
 use bflt_format::Flat;
 use elf2flt_tool::Refusal;
-use elf32_reader::ElfFault;
-use flat_layout::LayoutFault;
+use fault_texts::{elf_fault_words, layout_fault_words, reloc_fault_words};
 use psabi_relocs::RelocFault;
 use std::alloc::{AllocError, Global};
 
@@ -44,55 +43,6 @@ pub fn refused(alloc: Global, tail: &str) -> Result<String, AllocError>
     ensures { IfOk result (λ line. string_bytes line ≡ refused_line tail.now) }
 {
     format!(in alloc; "refused: {tail}\n")
-}
-
-fn elf_fault_words(fault: ElfFault) -> &'static str
-    ensures { result.now ≡ elf_fault_words fault }
-{
-    match fault {
-        ElfFault::Short => "1 Short",
-        ElfFault::Magic => "2 Magic",
-        ElfFault::Class => "3 Class",
-        ElfFault::Order => "4 Order",
-        ElfFault::Version => "5 Version",
-        ElfFault::FileType => "6 FileType",
-        ElfFault::Machine => "7 Machine",
-        ElfFault::Flags => "8 Flags",
-        ElfFault::SectionTable => "9 SectionTable",
-        ElfFault::SectionRange => "10 SectionRange",
-        ElfFault::SymbolRange => "11 SymbolRange",
-        ElfFault::RelaShape => "12 RelaShape",
-    }
-}
-
-fn layout_fault_words(fault: LayoutFault) -> &'static str
-    ensures { result.now ≡ layout_fault_words fault }
-{
-    match fault {
-        LayoutFault::NoSections => "1 NoSections",
-        LayoutFault::TooLarge => "2 TooLarge",
-        LayoutFault::Overlap => "3 Overlap",
-        LayoutFault::Dynamic => "4 Dynamic",
-        LayoutFault::Tls => "5 Tls",
-        LayoutFault::EntryOutside => "6 EntryOutside",
-    }
-}
-
-fn reloc_fault_words(fault: RelocFault) -> &'static str
-    ensures { result.now ≡ reloc_fault_words fault }
-{
-    match fault {
-        RelocFault::UnknownType => "1 UnknownType",
-        RelocFault::BadSymbol => "2 BadSymbol",
-        RelocFault::Undefined => "3 Undefined",
-        RelocFault::PlaceOutside => "4 PlaceOutside",
-        RelocFault::AbsoluteCode => "5 AbsoluteCode",
-        RelocFault::WeakPcrel => "6 WeakPcrel",
-        RelocFault::AbsPcrel => "7 AbsPcrel",
-        RelocFault::LoneLow => "8 LoneLow",
-        RelocFault::Unpaired => "9 Unpaired",
-        RelocFault::FieldMismatch => "10 FieldMismatch",
-    }
 }
 
 fn reloc_tail(

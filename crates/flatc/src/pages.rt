@@ -11,8 +11,9 @@ usage: flatc COMMAND WORDS
   convert ELF FLT [--stack N]                 convert the file ELF, and store its flat
                                               file as FLT, with N bytes of stack: 16 to
                                               1048576, else 4096
-  check ELF                                   say whether ELF can be converted, and store
-                                              nothing
+  check ELF [--all]                           say whether ELF can be converted, and store
+                                              nothing; --all tells each fault by section
+                                              and symbol, and counts them
   list FLT                                    write the listing of the flat file FLT
   run MANIFEST [--log] [--go-on] [--place K] [--items N FILE] [--watch touch|within]
                                               run the programs of MANIFEST by turns in one

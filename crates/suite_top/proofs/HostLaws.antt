@@ -109,7 +109,7 @@ command_has : (o : Option Invocation) (inputs : Inputs) → HasStore (option_and
 command_has None inputs = tt
 command_has (Some (convert elf flt stack)) inputs = behind_has flt stack (inputs 0 elf) (with_found elf (inputs 0 elf) (converted_outcome flt stack)).requests (requests_behind elf flt stack (inputs 0 elf))
 command_has (Some (list flt)) inputs = subst (HasStore None) (sym (list_requests flt inputs)) tt
-command_has (Some (check elf)) inputs = subst (HasStore None) (sym (check_requests elf inputs)) tt
+command_has (Some (check elf all)) inputs = subst (HasStore None) (sym (check_requests elf all inputs)) tt
 command_has (Some (run manifest options)) inputs = run_has (Report options) options.kept refl manifest inputs
 command_has (Some (trace manifest options)) inputs = run_has (Trace options) None refl manifest inputs
 command_has (Some (romfs manifest image)) inputs = romfs_has manifest image inputs

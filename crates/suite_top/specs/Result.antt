@@ -17,7 +17,7 @@ abbrev pub command_outcome : Option Invocation → Inputs → Outcome
 command_outcome None inputs = record { requests = []; ending = usage_ending }
 command_outcome (Some (convert elf flt stack)) inputs = convert_outcome elf flt stack inputs
 command_outcome (Some (list flt)) inputs = list_outcome flt inputs
-command_outcome (Some (check elf)) inputs = check_outcome elf inputs
+command_outcome (Some (check elf all)) inputs = check_outcome elf all inputs
 command_outcome (Some (run manifest options)) inputs = run_outcome manifest (Report options) inputs
 command_outcome (Some (trace manifest options)) inputs = run_outcome manifest (Trace options) inputs
 command_outcome (Some (romfs manifest image)) inputs = romfs_outcome manifest image inputs

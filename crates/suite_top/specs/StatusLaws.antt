@@ -1,14 +1,17 @@
 -- When each status comes, and what was written then: laws over every call.
-use Rattle.std.specs.Prelude.{◌≡◌, ◌≢◌, ◌⊎◌, ◌++◌, ◌↔◌, ℕ, ◌≤◌, List, [], ◌∷◌, decimal, Some, None, option_map}
+use Rattle.std.specs.Prelude.{◌≡◌, ◌≢◌, ◌⊎◌, ◌++◌, ◌↔◌, ℕ, ◌≤◌, true, List, [], ◌∷◌, decimal, Option, Some, None, option_map}
 use Rattle.host_io.specs.Faults.{Rose}
 use Rattle.host_io.specs.Host.{Told}
 use Rattle.file_commands.specs.declared.status.Status.{Status}
 use Rattle.file_commands.specs.declared.status.Status.TheVariants.{Done, Usage, HostRead, Refused, Stray, OutOfQuanta, LogFull, SinkWrite, Memory, HostWrite, Stuck, Refuted}
-use Rattle.file_commands.specs.Texts.{memory_line}
-use Rattle.file_commands.specs.Ending.{Ending, memory_ending}
+use Rattle.elf2flt_tool.specs.declared.refusal.Refusal.{Refusal}
+use Rattle.elf2flt_tool.specs.Fault.{fault}
+use Rattle.file_commands.specs.Texts.{refusal_tail, memory_line}
+use Rattle.file_commands.specs.Ending.{Ending, listed_ending, memory_ending}
+use Rattle.file_commands.specs.Check.{faults_text}
 use Rattle.file_commands.specs.Outcome.{Request, load, store, failure_ending, Inputs}
 use Rattle.file_commands.specs.declared.command.Format.{Format}
-use Rattle.file_commands.specs.Arguments.{replay, IsNoRun, least_stack, most_stack, stack_of, command_of}
+use Rattle.file_commands.specs.Arguments.{Invocation, check, replay, IsNoRun, least_stack, most_stack, stack_of, command_of}
 use Rattle.suite_top.specs.Result.{result_of}
 use Rattle.file_commands.specs.HostCourse.{after_failure, after_answers, Performs}
 use Rattle.file_commands.specs.Delivery.{SinkStop, sink_failed, sink_memory, TookAll, CutShort}
@@ -110,12 +113,24 @@ pub record CutAtMemory (stop : SinkStop) (c : Call) : Type 0 where
 abbrev pub IsCut : SinkStop → Call → Type 0
 IsCut stop c = CutAtOut stop c ⊎ (CutAtReport stop c ⊎ (CutAtFailure stop c ⊎ CutAtMemory stop c))
 
--- a text stands in one sink alone: with Done and Refuted in `out`, and else in `report`. Only where a machine runs both may have one
+-- a text stands in one sink alone: with Done and Refuted in `out`, and else in `report`
 abbrev pub IsOneText : Ending → Type 0
 IsOneText ending = (ending.out ≡ []) ⊎ (((ending.status ≡ Done) ⊎ (ending.status ≡ Refuted)) × (ending.report ≡ []))
 
+-- or every fault of a file was asked for: their listing goes to `out`, and the line of the first one to `report`
+pub record IsListing (asked : Option Invocation) (inputs : Inputs) (ending : Ending) : Type 0 where
+  pub elf : List ℕ
+  pub command : asked ≡ Some (check elf true)
+  pub bytes : List ℕ
+  pub found : inputs 0 elf ≡ Some bytes
+  pub first : Refusal
+  pub faulty : fault bytes ≡ Some first
+  pub texts : ending ≡ listed_ending (faults_text bytes) (refusal_tail first)
+
+-- but for such a listing, only where a machine runs both may have one
 abbrev pub TextsAreApart : Type 0
-TextsAreApart = (arguments : List (List ℕ)) (inputs : Inputs) → IsNoRun (command_of arguments) → IsOneText (result_of arguments inputs).ending
+TextsAreApart = (arguments : List (List ℕ)) (inputs : Inputs) → IsNoRun (command_of arguments)
+    → IsOneText (result_of arguments inputs).ending ⊎ IsListing (command_of arguments) inputs (result_of arguments inputs).ending
 
 -- a sink failed, and no other text was written behind its prefix
 abbrev pub SinksFail : Type 0

@@ -74,7 +74,7 @@ where
     match read_arguments(arguments) {
         Some(Command::Convert { elf, flt, stack }) => convert_file(alloc, elf, flt, stack, host),
         Some(Command::List { flt }) => list_file(alloc, flt, host),
-        Some(Command::Check { elf }) => check_file(alloc, elf, host),
+        Some(Command::Check { elf, all }) => check_file(alloc, elf, all, host),
         Some(Command::Run { manifest, options }) => run_placed(
             alloc,
             manifest,
