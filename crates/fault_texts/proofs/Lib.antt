@@ -1,6 +1,7 @@
 -- Starts          the start of a name tells what is shown of it
 -- Headers         which rows are of a file's header
 -- InTable         the symbols of an entry's sight are of its table
+-- Tables          the indexes of tables, by section
 -- Counting        subjects each once, and how often they are among others
 -- Falling         counts by descending number
 -- Samples         names, computed
@@ -9,6 +10,7 @@ pub mod Starts
 pub mod Headers
 pub mod InTable
 pub mod Counting
+pub mod Tables
 pub mod Falling
 pub mod Samples
 pub mod ListingSamples

@@ -10,6 +10,7 @@ mod lines;
 mod listings;
 mod names;
 mod sights;
+mod subjects;
 mod symbols;
 mod words;
 
