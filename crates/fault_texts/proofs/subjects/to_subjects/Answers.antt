@@ -1,8 +1,15 @@
 -- The entry of a fault is one of the file.
+use Rattle.std.proofs.Common.{List, ℕ, subst, sym}
+use Rattle.fault_texts.specs.InFile.{AreOfRead}
+use Rattle.fault_texts.proofs.InFile.{entry_there}
 use Rattle.fault_texts.proofs.subjects.to_subjects.Goals as goal
 
 pub to_subject-requires-clause-kept : goal.to_subject-requires-clause-kept
-to_subject-requires-clause-kept c = let h = c.in-Some.ensures in let g = c.in-Some.is in let t = c.loop-fault-test.true in let t = c.loop-fault.auto in ?
+to_subject-requires-clause-kept c =
+    rw (c.loop-fault.invariant.same)
+    (entry_there c.args.sights.now c.args.found.now c.loop-fault.fault-index _ c.in-Some.entry.section c.in-Some.entry.index c.requires c.loop-fault-test.true c.in-Some.ensures).0
 
 pub to_subject-requires-clause-entry : goal.to_subject-requires-clause-entry
-to_subject-requires-clause-entry c = ?
+to_subject-requires-clause-entry c =
+    rw (c.loop-fault.invariant.same)
+    (entry_there c.args.sights.now c.args.found.now c.loop-fault.fault-index _ c.in-Some.entry.section c.in-Some.entry.index c.requires c.loop-fault-test.true c.in-Some.ensures).1
