@@ -1,5 +1,5 @@
 -- What holds of each element of a list.
-use Rattle.std.proofs.Common.{◌≡◌, ℕ, zero, suc, ◌<◌, inl, inr, Bool, List, [], ◌∷◌, filter, length, slice_get, slice_index_or, Some, subst, arith}
+use Rattle.std.proofs.Common.{◌≡◌, ℕ, zero, suc, ◌<◌, inl, inr, Bool, List, [], ◌∷◌, filter, length, slice_get, slice_index_or, Some, take, refl, subst, arith}
 use Rattle.std.specs.List.{AllByRecursion as Each}
 use Rattle.std.proofs.lemmas.Bool.{cases_Bool}
 use Rattle.std.proofs.lemmas.Option.{same_Some}
@@ -24,3 +24,14 @@ get_each P (x ∷ xs) (suc k) d below all = get_each P xs k d (omega arith) all.
 pub each_always : {X : Type 0} (P : X → Type 0) → ((x : X) → P x) → (xs : List X) → Each P xs
 each_always P holds [] = tt
 each_always P holds (x ∷ xs) = (holds x, each_always P holds xs)
+
+pub each_from : {X : Type 0} (P : X → Type 0) (xs : List X) → ((k : ℕ) (x : X) → slice_get xs k ≡ Some x → P x) → Each P xs
+each_from P [] holds = tt
+each_from P (x ∷ xs) holds = (holds 0 x refl, each_from P xs (λ k y there. holds (suc k) y there))
+
+-- an element of a front
+pub there_taken : {X : Type 0} (n : ℕ) (xs : List X) (k : ℕ) (x : X) → slice_get (take n xs) k ≡ Some x → slice_get xs k ≡ Some x
+there_taken zero xs k x there = absurd cc
+there_taken (suc n) [] k x there = there
+there_taken (suc n) (y ∷ xs) zero x there = there
+there_taken (suc n) (y ∷ xs) (suc k) x there = there_taken n xs k x there

@@ -2,6 +2,7 @@
 use Rattle.std.proofs.Common.{◌≡◌, ℕ, zero, suc, ◌<◌, inl, inr, ◌⊎◌, List, [], ◌∷◌, length, replicate, slice_set, slice_get, slice_index_or, is_some, true, Option, Some, None, refl, sym, ap, ◌∙◌, subst, arith}
 use Rattle.std.proofs.lemmas.Option.{same_Some, slice_get_read}
 use Rattle.std.proofs.lemmas.List.{length-replicate}
+use Rattle.elf32_reader.specs.Accepted.{IsAccepted}
 use Rattle.elf32_reader.specs.Header.{count_of}
 use Rattle.psabi_relocs.specs.declared.around.Spot.{Spot}
 use Rattle.psabi_relocs.specs.Spots.{IsAroundOf}
@@ -12,8 +13,9 @@ none_there zero t ss is = absurd cc
 none_there (suc n) zero ss is = absurd cc
 none_there (suc n) (suc t) ss is = none_there n t ss is
 
-pub no_tables : (e : List ℕ) (ts : List (Option (List Spot))) → ts ≡ replicate (count_of e) None → AreTables e ts
-no_tables e ts is = record {
+pub no_tables : (e : List ℕ) (ts : List (Option (List Spot))) → IsAccepted e → ts ≡ replicate (count_of e) None → AreTables e ts
+no_tables e ts accepted is = record {
+  accepted = accepted;
   all = ap length is ∙ length-replicate (count_of e) None;
   each = λ t ss there. absurd (none_there (count_of e) t ss (ap (λ us. slice_get us t) (sym is) ∙ there));
 }
@@ -42,6 +44,7 @@ length_set (p ∷ ts) (suc t) o = ap suc (length_set ts t o)
 -- with the index of one table more
 pub with_table : (e : List ℕ) (ts : List (Option (List Spot))) (t : ℕ) (ss : List Spot) → AreTables e ts → IsAroundOf e t ss → AreTables e (slice_set ts t (Some ss))
 with_table e ts t ss tables right = record {
+  accepted = tables.accepted;
   all = length_set ts t (Some ss) ∙ tables.all;
   each = λ u rs there. elim (set_other ts t u (Some ss) (Some rs) there) [
     | inl here ↦ subst (λ (v : ℕ). IsAroundOf e v rs) (sym here.0) (subst (IsAroundOf e t) (same_Some ss rs here.1) right)

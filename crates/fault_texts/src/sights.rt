@@ -1,6 +1,7 @@
 //! Which symbols stand around the entries with a fault, and which ones they mean.
 
 ghost use Rattle.std.specs.Prelude.{◌≡◌, ◌<◌, true, None, Some, replicate, slice_get, IfOk};
+ghost use Rattle.elf32_reader.specs.Accepted.{IsAccepted};
 ghost use Rattle.elf32_reader.specs.Relas.{is_kept, rela_count};
 ghost use Rattle.elf32_reader.specs.Symbols.{is_symtab};
 ghost use Rattle.elf2flt_tool.specs.Faults.{entry_at};
@@ -117,7 +118,8 @@ impl<'a> Sights<'a> {
 
     /// The file.
     pub fn elf(&self) -> &Elf<'a>
-        ensures { result.now ≡ self.now }
+        ensures accepted { IsAccepted self.now }
+        ensures file { result.now ≡ self.now }
     {
         self.elf
     }

@@ -1,5 +1,4 @@
 -- The index is that of the entry's table.
-use Rattle.std.proofs.Common.{arith}
 use Rattle.elf32_reader.proofs.Places.{is_kept_below}
 use Rattle.fault_texts.proofs.sights.sight_in.Goals as goal
 

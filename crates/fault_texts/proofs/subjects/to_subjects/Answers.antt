@@ -1,6 +1,4 @@
 -- The entry of a fault is one of the file.
-use Rattle.std.proofs.Common.{List, ℕ, subst, sym}
-use Rattle.fault_texts.specs.InFile.{AreOfRead}
 use Rattle.fault_texts.proofs.InFile.{entry_there}
 use Rattle.fault_texts.proofs.subjects.to_subjects.Goals as goal
 
