@@ -1,6 +1,11 @@
 -- Starts          the start of a name tells what is shown of it
 -- Headers         which rows are of a file's header
 -- InTable         the symbols of an entry's sight are of its table
+-- Elements        what holds of each element of a list
+-- InFile          the entry of a fault is one of the file
+-- FoundIn         what the faults of a file speak of lies in that file
+-- Subjects        the subjects of entries of a file, and their counts, are of that file
+-- Tables          the indexes of tables, by section
 -- Counting        subjects each once, and how often they are among others
 -- Falling         counts by descending number
 -- Samples         names, computed
@@ -9,6 +14,11 @@ pub mod Starts
 pub mod Headers
 pub mod InTable
 pub mod Counting
+pub mod Tables
+pub mod Elements
+pub mod InFile
+pub mod FoundIn
+pub mod Subjects
 pub mod Falling
 pub mod Samples
 pub mod ListingSamples

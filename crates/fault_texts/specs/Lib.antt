@@ -4,6 +4,7 @@
 -- Lines: the line of each fault.
 -- Counts: how many faults there are of each symbol and of each kind.
 -- Kinds: the lines of kinds of faults.
+-- InFile: what is known of the faults of a file.
 -- Listing: all faults of a file as a text.
 pub mod Names
 pub mod Symbols
@@ -11,4 +12,5 @@ pub mod Words
 pub mod Lines
 pub mod Counts
 pub mod Kinds
+pub mod InFile
 pub mod Listing

@@ -3,6 +3,7 @@
 //! What may stand here: texts of such a file and its faults. What may not: which faults it has, a host, or any command.
 #![tactic(auto)]
 
+mod count_lines;
 mod counts;
 mod entry;
 mod kinds;
@@ -10,6 +11,7 @@ mod lines;
 mod listings;
 mod names;
 mod sights;
+mod subjects;
 mod symbols;
 mod words;
 

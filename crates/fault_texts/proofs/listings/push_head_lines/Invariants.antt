@@ -1,0 +1,8 @@
+-- The lines so far.
+use Rattle.std.proofs.Common.{◌≡◌, ◌++◌, take}
+use Rattle.std.specs.List.{flat_map}
+use Rattle.fault_texts.specs.Lines.{fault_line}
+use Rattle.fault_texts.proofs.listings.push_head_lines.Given as goal
+
+abbrev pub invariant-loop-fault : goal.invariant-loop-fault
+invariant-loop-fault l = l.text.items ≡ l.fn.text.items ++ flat_map (fault_line l.heads) (take l.fault-index l.found)
