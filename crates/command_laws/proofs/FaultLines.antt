@@ -1,5 +1,5 @@
 -- The line of a fault begins with the tail of its refusal.
-use Rattle.std.proofs.Common.{◌≡◌, ℕ, List, [], ◌∷◌, ◌++◌, codes, refl, sym, ap, ◌∙◌, append_assoc, append-nil}
+use Rattle.std.proofs.Common.{◌≡◌, ℕ, List, [], ◌++◌, codes, refl, sym, ap, ◌∙◌, append_assoc, append-nil}
 use Rattle.std.specs.Prelude.{decimal}
 use Rattle.elf2flt_tool.specs.declared.fault.Fault.{Fault}
 use Rattle.elf2flt_tool.specs.declared.fault.Fault.TheVariants as every
@@ -22,7 +22,7 @@ named i j w rest =
     in_front i (codes " entry " ++ (j ++ (codes " " ++ []))) (codes " entry " ++ (j ++ (codes " " ++ (w ++ [])))) (w ++ rest) rest (ap (λ xs. codes " entry " ++ xs) entry)
 
 -- what stands behind the tail
-behind : List ℕ → Fault → List ℕ
+abbrev behind : List ℕ → Fault → List ℕ
 behind e (every.Elf f i j) = found_text e i f ++ codes "\n"
 behind e (every.Layout f i j) = layout_text e i j f ++ codes "\n"
 behind e (every.Reloc i j f) = codes " " ++ (where_text e (entry_at i j) ++ codes "\n")
