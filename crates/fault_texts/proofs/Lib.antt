@@ -4,7 +4,7 @@
 -- Elements        what holds of each element of a list
 -- InFile          the entry of a fault is one of the file
 -- FoundIn         what the faults of a file speak of lies in that file
--- Subjects        the subjects of entries of a file, and their counts, are of that file
+-- Subjected       the subjects of entries of a file, and their counts, are of that file
 -- Tables          the indexes of tables, by section
 -- Counting        subjects each once, and how often they are among others
 -- Falling         counts by descending number
@@ -18,7 +18,7 @@ pub mod Tables
 pub mod Elements
 pub mod InFile
 pub mod FoundIn
-pub mod Subjects
+pub mod Subjected
 pub mod Falling
 pub mod Samples
 pub mod ListingSamples
