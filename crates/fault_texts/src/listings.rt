@@ -32,7 +32,7 @@ const MOST_LINES: usize = 65_536;
 fn written<T>(items: &[T]) -> &[T]
     ensures { result.now ≡ take most_lines items.now }
 {
-    items.split_at(items.len().min(MOST_LINES)).0
+    items.split_at(MOST_LINES.min(items.len())).0
 }
 
 /// The line of a fault of an entry by itself.
