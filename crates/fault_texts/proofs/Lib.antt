@@ -5,6 +5,7 @@
 -- InFile          the entry of a fault is one of the file
 -- FoundIn         what the faults of a file speak of lies in that file
 -- Subjected       the subjects of entries of a file, and their counts, are of that file
+-- Unread          the faults of a file that can't be read
 -- Tables          the indexes of tables, by section
 -- Counting        subjects each once, and how often they are among others
 -- Falling         counts by descending number
@@ -19,6 +20,7 @@ pub mod Elements
 pub mod InFile
 pub mod FoundIn
 pub mod Subjected
+pub mod Unread
 pub mod Falling
 pub mod Samples
 pub mod ListingSamples
