@@ -4,7 +4,7 @@ use Rattle.std.specs.Prelude.{codes, decimal}
 use Rattle.std.specs.List.{flat_map, range_with_len, AllByRecursion as Each}
 use Rattle.std.specs.Option.{is_none, option_or}
 use Rattle.std.proofs.lemmas.Bool.{cases_Bool}
-use Rattle.std.proofs.lemmas.List.{append-nil}
+use Rattle.std.proofs.lemmas.List.{append-nil, append_assoc}
 use Rattle.elf32_reader.specs.declared.fault.ElfFault.{ElfFault}
 use Rattle.elf32_reader.specs.Header.{count_of}
 use Rattle.elf32_reader.specs.Faults.{header_fault, section_fault, elf_fault}
@@ -82,3 +82,36 @@ header_listed e f fs is are none =
   where
     one : (text : List ℕ) → (text ++ []) ++ numbers fs ≡ text ++ numbers fs
     one text = simp append-nil
+
+abbrev pub with_numbers : List ℕ → List Fault → List ℕ
+with_numbers text fs = (((text ++ kind_lines fs) ++ codes "faults ") ++ decimal (length fs)) ++ codes "\n"
+
+regroup : (a b c d e : List ℕ) → (((a ++ b) ++ c) ++ d) ++ e ≡ a ++ (b ++ (c ++ (d ++ e)))
+regroup a b c d e = simp append_assoc
+
+grouped : (text : List ℕ) (fs : List Fault) → with_numbers text fs ≡ text ++ numbers fs
+grouped text fs = regroup text (kind_lines fs) (codes "faults ") (decimal (length fs)) (codes "\n")
+
+-- behind the lines of section headers
+pub heads_text : (d e : List ℕ) (f : ElfFault) (fs gs : List Fault) (old new : List ℕ) → d ≡ e → elf_fault e ≡ Some f → fs ≡ faults e → gs ≡ take most_lines fs
+    → new ≡ old ++ flat_map (fault_line d) gs → with_numbers new fs ≡ old ++ listing e fs
+heads_text d e f fs gs old new same is are written text =
+    grouped new fs
+    ∙ ap (λ (t : List ℕ). t ++ numbers fs) (text ∙ ap (λ (b : List ℕ). old ++ flat_map (fault_line b) gs) same ∙ ap (λ (hs : List Fault). old ++ flat_map (fault_line e) hs) written)
+    ∙ behind old (flat_map (fault_line e) (take most_lines fs)) (numbers fs)
+    ∙ ap (λ (t : List ℕ). old ++ t) (sym (heads_listed e f fs is are))
+  where
+    behind : (a b c : List ℕ) → (a ++ b) ++ c ≡ a ++ (b ++ c)
+    behind a b c = simp append_assoc
+
+-- and behind that of the header
+pub header_text : (e : List ℕ) (f : ElfFault) (fs : List Fault) (old new : List ℕ) → elf_fault e ≡ Some f → fs ≡ faults e → false ≡ is_none (header_fault e)
+    → new ≡ old ++ fault_line e (elf_in f 0) → with_numbers new fs ≡ old ++ listing e fs
+header_text e f fs old new is are none text =
+    grouped new fs
+    ∙ ap (λ (t : List ℕ). t ++ numbers fs) text
+    ∙ behind old (fault_line e (elf_in f 0)) (numbers fs)
+    ∙ ap (λ (t : List ℕ). old ++ t) (sym (header_listed e f fs is are none))
+  where
+    behind : (a b c : List ℕ) → (a ++ b) ++ c ≡ a ++ (b ++ c)
+    behind a b c = simp append_assoc
