@@ -200,11 +200,7 @@ fn push_found_head(text: &mut Vec<u8>, heads: &Heads<'_>, fault: &Fault) -> Resu
 }
 
 /// The lines of faults of section headers.
-fn push_head_lines(
-    text: &mut Vec<u8>,
-    heads: &Heads<'_>,
-    found: &[Fault],
-) -> Result<(), AllocError>
+fn push_head_lines(text: &mut Vec<u8>, heads: &Heads<'_>, found: &[Fault]) -> Result<(), AllocError>
     requires { AreOfHeads heads.now found.now }
     ensures { IfOk result (λ _. text.new.items ≡ text.old.items ++ flat_map (fault_line heads.now) found.now) }
 {
