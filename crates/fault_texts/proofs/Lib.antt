@@ -3,8 +3,10 @@
 -- InTable         the symbols of an entry's sight are of its table
 -- Elements        what holds of each element of a list
 -- InFile          the entry of a fault is one of the file
--- FoundIn         what the faults of a file speak of lies in that file
--- Subjects        the subjects of entries of a file, and their counts, are of that file
+-- FoundIn         what the faults of a file's layout speak of lies in the file
+-- EntriesIn       what the faults of entries speak of lies in the file
+-- Subjected       the subjects of entries of a file, and their counts, are of that file
+-- Unread          the faults of a file that can't be read
 -- Tables          the indexes of tables, by section
 -- Counting        subjects each once, and how often they are among others
 -- Falling         counts by descending number
@@ -18,7 +20,9 @@ pub mod Tables
 pub mod Elements
 pub mod InFile
 pub mod FoundIn
-pub mod Subjects
+pub mod EntriesIn
+pub mod Subjected
+pub mod Unread
 pub mod Falling
 pub mod Samples
 pub mod ListingSamples

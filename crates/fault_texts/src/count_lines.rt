@@ -42,11 +42,7 @@ fn push_to_line(text: &mut Vec<u8>, elf: &Elf<'_>, count: Count) -> Result<(), A
 }
 
 /// The lines of symbols around places.
-pub fn push_in_lines(
-    text: &mut Vec<u8>,
-    elf: &Elf<'_>,
-    counts: &[Count],
-) -> Result<(), AllocError>
+pub fn push_in_lines(text: &mut Vec<u8>, elf: &Elf<'_>, counts: &[Count]) -> Result<(), AllocError>
     requires { AreCounted elf.now counts.now }
     ensures { IfOk result (λ _. text.new.items ≡ text.old.items ++ flat_map (in_line elf.now) counts.now) }
 {
@@ -57,11 +53,7 @@ pub fn push_in_lines(
 }
 
 /// The lines of symbols that are meant.
-pub fn push_to_lines(
-    text: &mut Vec<u8>,
-    elf: &Elf<'_>,
-    counts: &[Count],
-) -> Result<(), AllocError>
+pub fn push_to_lines(text: &mut Vec<u8>, elf: &Elf<'_>, counts: &[Count]) -> Result<(), AllocError>
     requires { AreCounted elf.now counts.now }
     ensures { IfOk result (λ _. text.new.items ≡ text.old.items ++ flat_map (to_line elf.now) counts.now) }
 {

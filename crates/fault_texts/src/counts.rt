@@ -84,7 +84,7 @@ fn counts_along(alloc: Global, subjects: &[Subject]) -> Result<Vec<Count>, Alloc
     requires { IsNonDecreasingBy order_of subjects.now }
     ensures { IfOk result (λ counts. counts.items ≡ map (count_in subjects.now) (each_once subjects.now)) }
 {
-    let mut counts = Vec::new(alloc);
+    let mut counts = Vec::with_capacity(alloc, subjects.len())?;
     for index in 0..subjects.len() {
         add_subject(&mut counts, subjects, index)?;
     }

@@ -3,10 +3,11 @@
 ghost use Rattle.std.specs.Prelude.{◌≡◌, ◌++◌, take, length, codes, decimal, Some, IfOk};
 ghost use Rattle.std.specs.List.{flat_map};
 ghost use Rattle.elf32_reader.specs.Faults.{elf_fault};
+ghost use Rattle.elf2flt_tool.specs.declared.fault.Fault.TheVariants as every;
 ghost use Rattle.elf2flt_tool.specs.Faults.{faults};
 ghost use Rattle.fault_texts.specs.Lines.{fault_line};
 ghost use Rattle.fault_texts.specs.Counts.{kind_lines};
-ghost use Rattle.fault_texts.specs.InFile.{IsOfRead, AreOfRead, IsOfHeads, AreOfHeads};
+ghost use Rattle.fault_texts.specs.InFile.{IsEntry, IsOfRead, AreOfRead, IsOfHeads, AreOfHeads};
 ghost use Rattle.fault_texts.specs.Listing.{in_line, to_line, most_lines, in_counts, to_counts, listing};
 
 use crate::count_lines::{push_in_lines, push_to_lines};
@@ -21,6 +22,7 @@ use crate::sights::Sights;
 use crate::subjects::{in_subjects, to_subjects};
 use elf2flt_tool::Fault;
 use elf32_reader::{Elf, ElfFault, Heads};
+use psabi_relocs::RelocFault;
 use std::alloc::{AllocError, Global};
 
 /// The most lines of faults, of counts by place, and of counts by symbol.
@@ -30,7 +32,52 @@ const MOST_LINES: usize = 65_536;
 fn written<T>(items: &[T]) -> &[T]
     ensures { result.now ≡ take most_lines items.now }
 {
-    items.split_at(items.len().min(MOST_LINES)).0
+    items.split_at(MOST_LINES.min(items.len())).0
+}
+
+/// The line of a fault of an entry by itself.
+fn push_reloc(
+    text: &mut Vec<u8>,
+    sights: &mut Sights<'_>,
+    fault: RelocFault,
+    entry: EntryAt,
+) -> Result<(), AllocError>
+    requires { IsEntry sights.old entry.section entry.index }
+    ensures same { sights.new ≡ sights.old }
+    ensures line { IfOk result (λ _. text.new.items ≡ text.old.items ++ fault_line sights.old (every.Reloc entry.section entry.index fault)) }
+{
+    let sight = sights.sight(entry)?;
+    push_reloc_line(text, sights.elf(), fault, entry, &sight)
+}
+
+/// The line of a word that points outside.
+fn push_target(
+    text: &mut Vec<u8>,
+    sights: &mut Sights<'_>,
+    place: u32,
+    entry: EntryAt,
+) -> Result<(), AllocError>
+    requires { IsEntry sights.old entry.section entry.index }
+    ensures same { sights.new ≡ sights.old }
+    ensures line { IfOk result (λ _. text.new.items ≡ text.old.items ++ fault_line sights.old (every.TargetOutside place entry.section entry.index)) }
+{
+    let sight = sights.sight(entry)?;
+    push_target_line(text, sights.elf(), place, entry, &sight)
+}
+
+/// The line of a word that overlaps.
+fn push_overlap(
+    text: &mut Vec<u8>,
+    sights: &mut Sights<'_>,
+    place: u32,
+    entry: EntryAt,
+) -> Result<(), AllocError>
+    requires { IsEntry sights.old entry.section entry.index }
+    ensures same { sights.new ≡ sights.old }
+    ensures line { IfOk result (λ _. text.new.items ≡ text.old.items ++ fault_line sights.old (every.WordOverlap place entry.section entry.index)) }
+{
+    let sight = sights.sight(entry)?;
+    push_overlap_line(text, sights.elf(), place, entry, &sight)
 }
 
 /// The line of a fault of a file that was read.
@@ -50,29 +97,17 @@ fn push_line(text: &mut Vec<u8>, sights: &mut Sights<'_>, fault: &Fault) -> Resu
             section,
             index,
             fault,
-        } => {
-            let entry = EntryAt { section, index };
-            let sight = sights.sight(entry)?;
-            push_reloc_line(text, sights.elf(), fault, entry, &sight)
-        }
+        } => push_reloc(text, sights, fault, EntryAt { section, index }),
         Fault::TargetOutside {
             place,
             section,
             index,
-        } => {
-            let entry = EntryAt { section, index };
-            let sight = sights.sight(entry)?;
-            push_target_line(text, sights.elf(), place, entry, &sight)
-        }
+        } => push_target(text, sights, place, EntryAt { section, index }),
         Fault::WordOverlap {
             place,
             section,
             index,
-        } => {
-            let entry = EntryAt { section, index };
-            let sight = sights.sight(entry)?;
-            push_overlap_line(text, sights.elf(), place, entry, &sight)
-        }
+        } => push_overlap(text, sights, place, EntryAt { section, index }),
     }
 }
 
@@ -165,11 +200,7 @@ fn push_found_head(text: &mut Vec<u8>, heads: &Heads<'_>, fault: &Fault) -> Resu
 }
 
 /// The lines of faults of section headers.
-fn push_head_lines(
-    text: &mut Vec<u8>,
-    heads: &Heads<'_>,
-    found: &[Fault],
-) -> Result<(), AllocError>
+fn push_head_lines(text: &mut Vec<u8>, heads: &Heads<'_>, found: &[Fault]) -> Result<(), AllocError>
     requires { AreOfHeads heads.now found.now }
     ensures { IfOk result (λ _. text.new.items ≡ text.old.items ++ flat_map (fault_line heads.now) found.now) }
 {

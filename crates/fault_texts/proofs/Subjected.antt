@@ -1,5 +1,5 @@
 -- The subjects of entries of a file, and the counts of these, are of that file.
-use Rattle.std.proofs.Common.{◌≡◌, ℕ, zero, suc, ◌<◌, ◌==◌, List, [], ◌∷◌, ◌++◌, map, filter, take, length, slice_get, Option, Some, None, refl, sym, subst, ◌∙◌, arith}
+use Rattle.std.proofs.Common.{◌≡◌, ℕ, zero, suc, ◌<◌, ◌==◌, List, [], ◌∷◌, ◌++◌, map, filter, take, length, slice_get, Option, Some, None, refl, sym, ap, subst, ◌∙◌, arith}
 use Rattle.std.specs.Prelude.{IfSome}
 use Rattle.std.specs.List.{flat_map, AllByRecursion as Each}
 use Rattle.elf32_reader.specs.Accepted.{IsAccepted}
@@ -73,14 +73,24 @@ counted_taken : (e : List ℕ) (n : ℕ) (ss : List Subject) → Each (IsSubject
 counted_taken e n ss all k c there =
     each_there (λ c. IsSubject e c.subject) (counts_of ss) (counts_in (IsSubject e) ss all) k c (there_taken n (counts_of ss) k c there)
 
--- the counts by place
-pub in_counted : (e : List ℕ) → IsAccepted e → (fs : List Fault) → AreOfRead e fs → AreCounted e (take most_lines (in_counts e fs))
+in_counted : (e : List ℕ) → IsAccepted e → (fs : List Fault) → AreOfRead e fs → AreCounted e (take most_lines (in_counts e fs))
 in_counted e accepted fs all =
     counted_taken e most_lines (map (in_subject e) (faulty_entries fs))
     (each-map (IsSubject e) (in_subject e) (faulty_entries fs) (each-weaker (IsEntryOf e) (λ x. IsSubject e (in_subject e x)) (in_is e accepted) (faulty_entries fs) (faulty_in e fs all)))
 
--- and those by symbol
-pub to_counted : (e : List ℕ) → IsAccepted e → (fs : List Fault) → AreOfRead e fs → AreCounted e (take most_lines (to_counts e fs))
+to_counted : (e : List ℕ) → IsAccepted e → (fs : List Fault) → AreOfRead e fs → AreCounted e (take most_lines (to_counts e fs))
 to_counted e accepted fs all =
     counted_taken e most_lines (map (to_subject e) (faulty_entries fs))
     (each-map (IsSubject e) (to_subject e) (faulty_entries fs) (each-weaker (IsEntryOf e) (λ x. IsSubject e (to_subject e x)) (to_is e accepted) (faulty_entries fs) (faulty_in e fs all)))
+
+-- the counts by place that are written
+pub in_written : (d e : List ℕ) (fs : List Fault) (cs : List Count) → d ≡ e → IsAccepted d → AreOfRead e fs → cs ≡ take most_lines (in_counts e fs) → AreCounted d cs
+in_written d e fs cs same accepted all are k c there =
+    in_counted d accepted fs (subst (λ (b : List ℕ). AreOfRead b fs) (sym same) all) k c
+    (subst (λ (ds : List Count). slice_get ds k ≡ Some c) (are ∙ ap (λ (b : List ℕ). take most_lines (in_counts b fs)) (sym same)) there)
+
+-- and those by symbol
+pub to_written : (d e : List ℕ) (fs : List Fault) (cs : List Count) → d ≡ e → IsAccepted d → AreOfRead e fs → cs ≡ take most_lines (to_counts e fs) → AreCounted d cs
+to_written d e fs cs same accepted all are k c there =
+    to_counted d accepted fs (subst (λ (b : List ℕ). AreOfRead b fs) (sym same) all) k c
+    (subst (λ (ds : List Count). slice_get ds k ≡ Some c) (are ∙ ap (λ (b : List ℕ). take most_lines (to_counts b fs)) (sym same)) there)
