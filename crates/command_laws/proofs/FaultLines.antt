@@ -18,7 +18,7 @@ named : (i j w rest : List ℕ)
 named i j w rest =
     let words : w ++ rest ≡ (w ++ []) ++ rest = ap (λ xs. xs ++ rest) (sym (append-nil w)) in
     let entry : (j ++ (codes " " ++ [])) ++ (w ++ rest) ≡ (j ++ (codes " " ++ (w ++ []))) ++ rest =
-        in_front j (codes " " ++ []) (codes " " ++ (w ++ [])) (w ++ rest) rest (ap (λ xs. codes " " ++ xs) words) in
+    in_front j (codes " " ++ []) (codes " " ++ (w ++ [])) (w ++ rest) rest (ap (λ xs. codes " " ++ xs) words) in
     in_front i (codes " entry " ++ (j ++ (codes " " ++ []))) (codes " entry " ++ (j ++ (codes " " ++ (w ++ [])))) (w ++ rest) rest (ap (λ xs. codes " entry " ++ xs) entry)
 
 -- what stands behind the tail

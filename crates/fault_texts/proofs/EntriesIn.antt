@@ -16,7 +16,7 @@ use Rattle.elf2flt_tool.specs.declared.entry_word.EntryWord.{EntryWord}
 use Rattle.elf2flt_tool.specs.declared.word.Word.{Word}
 use Rattle.elf2flt_tool.specs.Word.{met_words}
 use Rattle.elf2flt_tool.specs.Faults.{layout_faults, Entry, entry_at, entries, reloc_faults, is_sound, sound_spans, at_entry, outside_in, outside_of, met_of, by_place, stored_len, target_at, overlap_at, outside_words, overlapping_words, words_faults, read_faults, faults}
-use Rattle.elf2flt_tool.proofs.Members.{each-append, each-flat_map, each-map, each-range, each-weaker}
+use Rattle.elf2flt_tool.proofs.Members.{each-append, each-flat_map, each-range, each-weaker}
 use Rattle.elf2flt_tool.proofs.AllFaults.{each_entry}
 use Rattle.elf2flt_tool.proofs.NotedSteps.{faults_read}
 use Rattle.fault_texts.specs.InFile.{IsEntry, IsOfRead, AreOfRead}

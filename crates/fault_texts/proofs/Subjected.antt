@@ -1,5 +1,5 @@
 -- The subjects of entries of a file, and the counts of these, are of that file.
-use Rattle.std.proofs.Common.{◌≡◌, ℕ, zero, suc, ◌<◌, ◌==◌, List, [], ◌∷◌, ◌++◌, map, filter, take, length, slice_get, Option, Some, None, refl, sym, ap, subst, ◌∙◌, arith}
+use Rattle.std.proofs.Common.{◌≡◌, ℕ, ◌<◌, ◌==◌, List, [], ◌∷◌, map, filter, take, length, slice_get, Option, Some, None, sym, ap, subst, ◌∙◌, arith}
 use Rattle.std.specs.Prelude.{IfSome}
 use Rattle.std.specs.List.{flat_map, AllByRecursion as Each}
 use Rattle.elf32_reader.specs.Accepted.{IsAccepted}
@@ -14,7 +14,7 @@ use Rattle.elf2flt_tool.proofs.Members.{each-flat_map, each-map, each-weaker}
 use Rattle.fault_texts.specs.declared.counts.Subject.{Subject}
 use Rattle.fault_texts.specs.declared.counts.Count.{Count}
 use Rattle.fault_texts.specs.Lines.{table_of, around_of}
-use Rattle.fault_texts.specs.Counts.{each_once, count_in, down_from, by_count, counts_of}
+use Rattle.fault_texts.specs.Counts.{each_once, count_in, down_from, counts_of}
 use Rattle.fault_texts.specs.InFile.{IsEntry, IsOfRead, AreOfRead, IsSubject, AreCounted}
 use Rattle.fault_texts.specs.Listing.{entries_of, index_or_0, in_subject, to_subject, most_lines, faulty_entries, in_counts, to_counts}
 use Rattle.fault_texts.proofs.Elements.{each_there, each_kept, each_from, there_taken}

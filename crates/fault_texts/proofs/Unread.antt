@@ -10,13 +10,13 @@ use Rattle.elf32_reader.specs.Header.{count_of}
 use Rattle.elf32_reader.specs.Faults.{header_fault, section_fault, elf_fault}
 use Rattle.elf32_reader.specs.Heads as heads
 use Rattle.elf2flt_tool.specs.declared.fault.Fault.{Fault}
-use Rattle.elf2flt_tool.specs.Faults.{elf_in, row_of, section_faults, elf_faults, sections_with, faults}
+use Rattle.elf2flt_tool.specs.Faults.{elf_in, row_of, section_faults, sections_with, faults}
 use Rattle.elf2flt_tool.proofs.Members.{each-map, each-range, each-weaker}
 use Rattle.elf2flt_tool.proofs.NotedSteps.{header_only, sections_only, section_list, faults_unread}
 use Rattle.fault_texts.specs.Lines.{fault_line}
 use Rattle.fault_texts.specs.Counts.{counts_of, kind_lines}
 use Rattle.fault_texts.specs.InFile.{IsOfHeads, AreOfHeads}
-use Rattle.fault_texts.specs.Listing.{most_lines, faulty_entries, in_subject, to_subject, listing}
+use Rattle.fault_texts.specs.Listing.{most_lines, faulty_entries, listing}
 use Rattle.fault_texts.proofs.Elements.{each_there, each_kept, there_taken}
 
 -- ---- which they are
