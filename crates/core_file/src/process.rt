@@ -3,6 +3,7 @@
 use rv32im_step::Regs;
 
 /// Bytes of a process that stand one behind the other, all of which it may write, or none.
+#[derive(Drop)]
 pub struct Segment {
     /// The address of the first byte.
     pub addr: u32,
@@ -11,6 +12,7 @@ pub struct Segment {
 }
 
 /// A process at one moment.
+#[derive(Drop)]
 pub struct Core {
     /// The signal by which it would end next (signal(7)), 0 for none.
     pub signal: u8,

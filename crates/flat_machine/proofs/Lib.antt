@@ -25,6 +25,10 @@
 -- TurnsOn  a turn by its events, in a run that ends at its first stray access and in one that goes on
 -- HitsRounds  and of runs by quanta
 -- HitsRoundsIn  and of those in the one memory
+-- FallsOn   who falls in a turn does so by its last event
+-- FallsTurned  the core that a turn keeps
+-- FallsRounds  and runs by quanta
+-- CoreTold  and what a machine tells of it
 -- Waiting   who waits in a machine's world, and why where a run is stuck
 -- ByMode    what a run that halts keeps, by its turns
 -- Readers   what the fields of a machine say of its world
@@ -59,6 +63,10 @@ pub mod HitsTurned
 pub mod TurnsOn
 pub mod HitsRounds
 pub mod HitsRoundsIn
+pub mod FallsOn
+pub mod FallsTurned
+pub mod FallsRounds
+pub mod CoreTold
 pub mod Waiting
 pub mod ByMode
 pub mod Copies

@@ -9,7 +9,9 @@ use Rattle.machine_world.specs.World.{Rest, World}
 use Rattle.machine_world.specs.Ages.{AreChanged, most_at_boot}
 use Rattle.machine_world.specs.Boot.{BootFault, bad_start, args_too_big, no_run, empty_world}
 use Rattle.memory_world.specs.Physical.{has_stray, opening_in}
+use Rattle.region_watch.specs.declared.mode.Mode.TheVariants.{GoOn}
 use Rattle.flat_machine.specs.declared.boot.Setup.{Setup}
+use Rattle.flat_machine.specs.declared.caught.Wanted.TheVariants.{Nothing}
 use Rattle.flat_machine.specs.declared.boot.BootRefusal.{BootRefusal}
 use Rattle.flat_machine.specs.declared.boot.BootRefusal.TheVariants as refusal
 use Rattle.alone_laws.specs.Stays.{AreRight, first_stays}
@@ -50,8 +52,8 @@ Begins a (Ok now) new (Err other) = ⊥
 Begins a (Err fault) new (Ok done) = ⊥
 Begins a (Err fault) new (Err refusal) = IsFault fault refusal
 
--- what a machine may start with: 1 to 16,384 pages; no file was changed more than 2^63 times; each program has a path; and at most 64 start
--- lines have an argument each
+-- what a machine may start with: 1 to 16,384 pages; no file was changed more than 2^63 times; each program has a path; at most 64 start
+-- lines have an argument each; and a run that goes on keeps no core, since behind a stray access memory is nobody's own
 pub record IsSetup (setup : Setup) : Type 0 where
   pub some : 1 ≤ setup.pages
   pub most : setup.pages ≤ 16384
@@ -59,6 +61,7 @@ pub record IsSetup (setup : Setup) : Type 0 where
   pub paths : length setup.paths.items ≡ length setup.programs.items
   pub starts : length setup.starts.items ≤ 64
   pub args : (i : ℕ) (s : StartItem) → slice_get setup.starts.items i ≡ Some s → 0 < length s.args.items
+  pub core : setup.mode ≡ GoOn → setup.core ≡ Nothing
 
 -- what it starts with of a world, before the first program, in which free runs are chosen so
 abbrev pub rest_by : Kind → Setup → Rest
@@ -70,11 +73,13 @@ pub record HasRoom (k : Kept) : Type 0 where
   pub pids : k.procs.next_pid < most_first
   pub spaces : length k.spaces < most_first
 
--- a machine that starts so: its one memory is the opening one; it goes on or halts as it was told to, and noted no stray access; none waits
+-- a machine that starts so: its one memory is the opening one; it goes on or halts as it was told to, and keeps the core that it was told
+-- to, and none yet; it noted no stray access; none waits
 -- yet, so all that wait do so well; and the stays of the start lines, a program each with no call and no event, are right for its world
 pub record IsOpening (kind : Kind) (setup : Setup) (machine : State) : Type 0 where
   pub memory : one_memory machine ≡ opening_in (headers_of setup.programs.items) (world machine)
   pub mode : machine.mode ≡ setup.mode
+  pub core : machine.caught ≡ record { wanted = setup.core; core = None }
   pub quiet : has_stray (world machine).notes ≡ false
   pub waits : WaitsWell (world machine)
   pub stays : AreRight (first_stays (empty_world (rest_by kind setup)) (lines_of setup.starts.items)) (world machine)

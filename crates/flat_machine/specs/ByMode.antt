@@ -21,6 +21,7 @@ use Rattle.flat_machine.specs.declared.turn.After.TheVariants.{Strays}
 use Rattle.flat_machine.specs.State.{State, world, one_memory}
 use Rattle.flat_machine.specs.Hooks.{Given}
 use Rattle.flat_machine.specs.Hits.{turn_hits, turn_hits_in}
+use Rattle.flat_machine.specs.FallsLeft.{TurnFalls, FallsLeave, FallsFollow, TellsCore}
 use Rattle.flat_machine.specs.HitsLeft.{EventHits, TurnHits, HitsLeave, HitsLeaveIn, HitsFollow, HitsFollowIn, NoneWhereHalted}
 use Rattle.flat_machine.specs.Runs.{Runs, KeepsStays, KeepsWaits, WaitsWhereStuck}
 use Rattle.flat_machine.specs.Leaves.{CarriedOrEnds, CarriedOrPast, TurnLeaves, Leaves}
@@ -80,12 +81,14 @@ pub record GoOnTurn (run : Given) (pid count : ℕ) (old : Kept) (before : Found
   pub hits : ForRuns run.kind run.flats (λ a.
       TurnHits (turn_hits_in run.watched.point run.watched.spans pid) before after count (physical_of (headers_of run.flats) a old) done end)
 
--- so of a machine, whose copies hold their files behind a turn of a run that ends at its first stray access
+-- so of a machine, whose copies hold their files behind a turn of a run that ends at its first stray access, and which keeps the core of
+-- who falls
 pub record HaltTurnOf (watched : Watched) (pid count : ℕ) (old : State) (before : Found) (done : ℕ) (new : State) (after : Found) (end : Result (Option Told) AllocError) : Type 0 where
   pub leaves : TurnLeaves pid count (world old) done (world new) end
   pub quiet : is_stray end ≡ false → IsHalting new
   pub copies : HoldsFiles new.kept
   pub hits : TurnHits (turn_hits watched.point watched.spans pid) before after count (world old) done end
+  pub falls : TurnFalls pid old.caught new.caught count (world old) done end
 
 pub record GoOnTurnOf (watched : Watched) (pid count : ℕ) (old : State) (before : Found) (done : ℕ) (new : State) (after : Found) (end : Result (Option Told) AllocError) : Type 0 where
   pub memory : TurnLeavesIn pid count (one_memory old) done (one_memory new) end
@@ -99,6 +102,7 @@ pub record HaltRound (watched : Watched) (quanta : List Quantum) (old : State) (
   pub quiet : is_stray result ≡ false → IsHalting new
   pub copies : HoldsFiles old.kept → HoldsFiles new.kept
   pub hits : HitsLeave watched.point watched.spans before after quanta (world old) (world new) result
+  pub falls : FallsLeave old.caught new.caught quanta (world old) (world new) result
 
 pub record GoOnRound (watched : Watched) (quanta : List Quantum) (old : State) (before : Found) (new : State) (after : Found) (result : Result (Option Told) AllocError) : Type 0 where
   pub memory : LeavesIn quanta (one_memory old) (one_memory new) result
@@ -115,6 +119,8 @@ pub record HaltRuns (quanta : List Quantum) (old new : State) (result : Result T
   pub waits : KeepsWaits old new
   pub stuck : WaitsWhereStuck old new result
   pub alone : KeepsStays quanta old new result
+  pub falls : FallsFollow quanta old new result
+  pub core : TellsCore quanta old new result
 
 -- it goes on behind it
 pub record GoOnRuns (quanta : List Quantum) (old new : State) (result : Result Told AllocError) : Type 0 where

@@ -10,8 +10,13 @@
 -- LeavesIn  and of its events and turns
 -- Hits      which accesses of a run hit what is watched
 -- HitsLeft  and what is kept of those of a turn and of a run
+-- Caught    the core that a run keeps, and what is told of it
+-- CaughtInside  the fields of `Caught` as that
+-- FallsLeft  what is kept of those that fall by an event, a turn and a run
 -- OwnBytes  bytes of a process
 -- Inside    the fields of `Machine` as what it keeps
+pub mod Caught
+pub mod CaughtInside
 pub mod State
 pub mod Boots
 pub mod Runs
@@ -24,5 +29,6 @@ pub mod Keeps
 pub mod Steps
 pub mod Hits
 pub mod HitsLeft
+pub mod FallsLeft
 pub mod OwnBytes
 pub mod Inside

@@ -17,9 +17,10 @@ use Rattle.kept_parts.specs.InMemory.{headers_of, physical_of}
 use Rattle.region_watch.specs.declared.mode.Mode.{Mode}
 use Rattle.region_watch.specs.declared.mode.Mode.TheVariants.{Halt, GoOn}
 use Rattle.memory_world.specs.Physical.{Physical}
+use Rattle.flat_machine.specs.Caught.{Catch}
 
 -- the parts; how free runs are chosen; the paths of the programs, and their flat files; the number of events; what becomes of the run
--- at its first stray access; and what it reaches, all of memory behind that
+-- at its first stray access; what it reaches, all of memory behind that; and the core that it keeps
 pub record State : Type 0 where
   pub kept : Kept
   pub kind : Kind
@@ -28,6 +29,7 @@ pub record State : Type 0 where
   pub events : ℕ
   pub mode : Mode
   pub reach : Mode
+  pub caught : Catch
 
 abbrev pub about_of : State → About
 about_of s = record { kind = s.kind; programs = programs_of s.paths s.programs; events = s.events }

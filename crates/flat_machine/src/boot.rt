@@ -9,6 +9,7 @@ ghost use Rattle.kept_parts.specs.InMemory.{headers_of, LaysOn};
 ghost use Rattle.flat_machine.specs.State.{line_of, lines_of, about_boot};
 ghost use Rattle.flat_machine.specs.Boots.{marked, rest_by, IsSetup, HasRoom, Boots, Begins, IsOpening};
 
+use crate::caught::{Caught, Wanted};
 use crate::machine::Machine;
 use bflt_format::Flat;
 use fd_tables::Files;
@@ -38,6 +39,8 @@ pub struct Setup {
     pub mode: Mode,
     /// The number of the load note, from 1, whose space is recorded; 0 for none.
     pub keep: u32,
+    /// Of which process a core is kept.
+    pub core: Wanted,
 }
 
 /// Why a machine doesn't start: the number of the start line that failed.
@@ -126,6 +129,7 @@ impl Machine {
             stdin,
             mode,
             keep,
+            core,
         } = setup;
         let files = Files::new(alloc, stdin)?;
         let mut parts = KeptParts::new(alloc, pages, tree, files, keep)?;
@@ -137,6 +141,7 @@ impl Machine {
             kind: chooser.kind(),
             paths,
             events: 0,
+            caught: Caught::new(core),
         })
     }
 }

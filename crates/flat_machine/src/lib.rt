@@ -7,11 +7,13 @@
 mod advance;
 mod boot;
 mod bytes;
+mod caught;
 mod hooks;
 mod machine;
 mod run;
 mod turn;
 
 pub use boot::{BootRefusal, Setup};
+pub use caught::Wanted;
 pub use machine::Machine;
 pub use run::End;

@@ -1,6 +1,6 @@
 //! The machine, and what can be read of it.
 
-ghost use Rattle.std.specs.Prelude.{◌≡◌, false, length, map, option_map, reverse, IfOk};
+ghost use Rattle.std.specs.Prelude.{◌≡◌, false, length, map, option_map, reverse, IfOk, IfSome};
 ghost use Rattle.call_log.specs.Values.{note_value};
 ghost use Rattle.call_log.specs.Programs.{paths_of};
 ghost use Rattle.items_text.specs.Values.{items_value};
@@ -13,10 +13,16 @@ ghost use Rattle.waits_laws.specs.Laws.{IsOrdered};
 ghost use Rattle.recorded_items.specs.Recorded.{recorded};
 ghost use Rattle.kept_parts.specs.Copies.{KnowsFiles};
 ghost use Rattle.kept_parts.specs.Regular.{Regular};
+ghost use Rattle.region_watch.specs.declared.mode.Mode.TheVariants.{Halt};
+ghost use Rattle.core_file.specs.Code.{core_value};
+ghost use Rattle.core_file.specs.Given.{FitsFile};
+ghost use Rattle.flat_machine.specs.Caught.{taken_value, core_now};
 ghost use Rattle.flat_machine.specs.State.{world};
 
+use crate::caught::Caught;
 use crate::turn::tell_copies;
 use call_log::Note;
+use core_file::Core;
 use items_text::Items;
 use kept_parts::{KeptParts, free_runs_law};
 use page_runs::Kind;
@@ -34,6 +40,7 @@ pub struct Machine {
     pub(crate) paths: Vec<Vec<u8>>,
     /// How many events were carried out.
     pub(crate) events: u64,
+    pub(crate) caught: Caught,
 }
 
 impl Model for Machine {
@@ -120,6 +127,16 @@ impl Machine {
     {
         let parts = &self.parts.kept;
         recorded_items(alloc, &parts.recording, parts.log.notes())
+    }
+
+    /// The core of the process that was wanted: as it was before what felled it, or as it stands now. Only a run that ends at its first
+    /// stray access has one.
+    #[tactic(auto, unfolding(kept_parts::specs::Stands::world_of))]
+    pub fn core(&self, alloc: Global) -> Result<Option<Core>, AllocError>
+        ensures core { self.now.mode ≡ Halt → IfOk result (λ found. option_map taken_value found ≡ core_now self.now.caught.wanted (world self.now) self.now.caught.core) }
+        ensures fits { IfOk result (λ found. IfSome found (λ core. FitsFile (core_value core))) }
+    {
+        self.caught.told(alloc, &self.parts.kept)
     }
 
     /// The paths of the programs, in their order.

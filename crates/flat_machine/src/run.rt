@@ -86,7 +86,14 @@ impl Machine {
         ensures halts { IsHalting self.old → HaltTurnOf (watched_by hooks.now.watcher.now) pid count self.old hits.old result.events self.new hits.new result.end }
         ensures goes_on { self.old.mode ≡ GoOn → GoOnTurnOf (watched_by hooks.now.watcher.now) pid count self.old hits.old result.events self.new hits.new result.end }
     {
-        let TurnEnd { events, end } = turn(&mut self.parts, pid, count, hooks, hits);
+        let TurnEnd { events, end } = turn(
+            &mut self.parts,
+            pid,
+            count,
+            hooks,
+            hits,
+            &mut self.caught,
+        );
         self.events += u64::from(events);
         TurnEnd { events, end }
     }

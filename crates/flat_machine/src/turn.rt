@@ -1,11 +1,13 @@
 //! The turn of a process.
 
-ghost use Rattle.std.specs.Prelude.{◌≡◌, ℕ, true, false, List, None, Some, Ok};
+ghost use Rattle.std.specs.Prelude.{◌≡◌, ◌≤◌, ℕ, true, false, List, None, Some, Ok, IfOk, IfSome, option_map};
 ghost use Rattle.page_runs.specs.Choosers.{IsChooser, kind_of};
 ghost use Rattle.vfork_exec.specs.Procs.{CanRun};
 ghost use Rattle.byte_words.specs.declared.access.Access.{Access};
 ghost use Rattle.rv32im_step.specs.declared.stop.Stop.TheVariants.{Refused};
-ghost use Rattle.machine_world.specs.Event.{event};
+ghost use Rattle.call_log.specs.Notes.{most_calls};
+ghost use Rattle.machine_world.specs.Ages.{kept_calls};
+ghost use Rattle.machine_world.specs.Event.{event, strays};
 ghost use Rattle.memory_world.specs.Physical.{outside, has_stray, died_in};
 ghost use Rattle.region_watch.specs.declared.mode.Mode.TheVariants.{Halt, GoOn};
 ghost use Rattle.kept_parts.specs.Flats.{ForRuns};
@@ -14,7 +16,13 @@ ghost use Rattle.kept_parts.specs.Copies.{HoldsFiles, KnowsFiles};
 ghost use Rattle.kept_parts.specs.Reach.{reach_of};
 ghost use Rattle.kept_parts.specs.Stands.{About, world_of};
 ghost use Rattle.flat_machine.specs.declared.turn.After.TheVariants.{Strays};
-ghost use Rattle.flat_machine.specs.Leaves.{Carried};
+ghost use Rattle.core_file.specs.Code.{core_value};
+ghost use Rattle.core_file.specs.Given.{FitsFile};
+ghost use Rattle.core_world.specs.Falls.{trap_at, by_trap};
+ghost use Rattle.flat_machine.specs.Caught.{taken_value, with_falls};
+ghost use Rattle.flat_machine.specs.CaughtInside.{or_kept};
+ghost use Rattle.flat_machine.specs.FallsLeft.{HaltEventFalls, StrayFalls, HaltTurnFalls};
+ghost use Rattle.flat_machine.specs.Leaves.{Carried, CarriedOrEnds};
 ghost use Rattle.flat_machine.specs.LeavesIn.{CarriedIn};
 ghost use Rattle.flat_machine.specs.ByMode.{GoOnWithin, WholeEvent, HaltStray, GoOnStray, HaltEvent, GoOnEvent, HaltTurn, GoOnTurn};
 ghost use Rattle.flat_machine.specs.Hooks.{AreHooks, given, given_by};
@@ -23,8 +31,10 @@ ghost use Rattle.flat_machine.specs.Steps.{OwnSteps, MemorySteps};
 ghost use Rattle.watch_points.specs.Watchers.{IsWatcher, watched_by};
 
 use crate::advance::advance;
+use crate::caught::Caught;
 use crate::hooks::Hooks;
 use crate::run::End;
+use core_file::Core;
 use kept_parts::Served;
 use page_runs::{Chooser, Run};
 use region_watch::{Mode, Progress};
@@ -32,6 +42,9 @@ use rv32im_step::{Access, Stop};
 use std::alloc::AllocError;
 use syscall_layer::{Parts, call_event_law, serve};
 use watch_points::{Hits, Span, Watcher};
+
+/// The signal of a stray access.
+const SIGSEGV: u8 = 11;
 
 /// What comes of an event.
 #[derive(Clone, Copy, PartialEq, Eq)]
@@ -158,6 +171,27 @@ fn mode_of(parts: &Parts) -> Mode
     parts.mode
 }
 
+/// Notes the access of an instruction that strays, with which the run ends, and keeps its process's core where that is wanted.
+fn end_astray(
+    parts: &mut Parts,
+    pid: u32,
+    access: Access,
+    caught: &mut Caught,
+) -> Result<After, AllocError>
+    requires noted { parts.old.noted ≡ has_stray parts.old.kept.notes }
+    requires quiet { has_stray parts.old.kept.notes ≡ false }
+    ensures keeps { EventKeeps parts.old parts.new result }
+    ensures ends { (a : About) → CarriedOrEnds a (strays access) parts.old.kept parts.new.kept pid result }
+    ensures holds { IfOk result (λ _. HoldsFiles parts.new.kept) }
+    ensures falls { StrayFalls pid parts.old.kept caught.old parts.new.kept caught.new result }
+{
+    let alloc = *parts.kept.console.allocator();
+    let core = caught.copied(alloc, &parts.kept, pid, SIGSEGV)?;
+    parts.note_stray(pid, access)?;
+    caught.keep(core);
+    Ok(After::Strays(access))
+}
+
 /// Notes the access of an instruction that strays, the run's first. A run that goes on then carries out its event over all of memory; out
 /// of memory there is no such note either. It stays a function of its own, since each turn would save the registers that it needs, and
 /// next to none comes here.
@@ -168,18 +202,17 @@ fn stray<F: Fn(&[Run], u32) -> Option<usize>, G: Fn(&[Span], u32, u32) -> bool>(
     access: Access,
     hooks: &Hooks<'_, F, G>,
     hits: &mut Hits,
+    caught: &mut Caught,
 ) -> Result<After, AllocError>
     requires hooks { AreHooks F.pre F.post G.pre G.post hooks.now }
     requires first { FirstStrays (kind_of hooks.now.chooser.now) parts.old pid access }
     ensures keeps { EventKeeps parts.old parts.new result }
     ensures halts { parts.old.mode ≡ Halt → HaltStray pid access parts.old.kept hits.old parts.new.kept hits.new result }
     ensures goes_on { parts.old.mode ≡ GoOn → GoOnStray (given_by hooks.now parts.old.programs) pid access parts.old.kept hits.old parts.new.kept hits.new result }
+    ensures falls { parts.old.mode ≡ Halt → StrayFalls pid parts.old.kept caught.old parts.new.kept caught.new result }
 {
     match mode_of(parts) {
-        Mode::Halt => {
-            parts.note_stray(pid, access)?;
-            Ok(After::Strays(access))
-        }
+        Mode::Halt => end_astray(parts, pid, access, caught),
         Mode::GoOn => {
             // What a closure ensures isn't inferred where it captures a struct with a lifetime.
             let chooser = hooks.chooser;
@@ -191,26 +224,50 @@ fn stray<F: Fn(&[Run], u32) -> Option<usize>, G: Fn(&[Span], u32, u32) -> bool>(
     }
 }
 
+/// A copy of a process whose next step ends so, if that is a trap, its core is wanted, and none is kept.
+fn trapped(
+    parts: &Parts,
+    pid: u32,
+    stop: Stop,
+    caught: &Caught,
+) -> Result<Option<Core>, AllocError>
+    requires { StandsTo stop parts.now pid }
+    ensures taken { has_stray parts.now.kept.notes ≡ false → (a : About) → kept_calls parts.now.kept.notes ≤ most_calls →
+        IfOk result (λ found. record caught.now { core = or_kept (option_map taken_value found) caught.now.core } ≡
+            with_falls caught.now (by_trap (world_of a parts.now.kept) pid (trap_at (world_of a parts.now.kept) pid))) }
+    ensures fits { IfOk result (λ found. IfSome found (λ core. FitsFile (core_value core))) }
+{
+    let Stop::Trap(signal) = stop else {
+        return Ok(None);
+    };
+    let alloc = *parts.kept.console.allocator();
+    caught.copied(alloc, &parts.kept, pid, signal as u8)
+}
+
 /// The event of a process that may run and whose next step ends so, within what is reached: behind the run's first stray access, which is
-/// noted, that is all of memory.
+/// noted, that is all of memory. If it ends its process, or the run, the core that is wanted is kept.
 fn next_event<F: Fn(&[Run], u32) -> Option<usize>, G: Fn(&[Span], u32, u32) -> bool>(
     parts: &mut Parts,
     pid: u32,
     stop: Stop,
     hooks: &Hooks<'_, F, G>,
     hits: &mut Hits,
+    caught: &mut Caught,
 ) -> Result<After, AllocError>
     requires hooks { AreHooks F.pre F.post G.pre G.post hooks.now }
     requires stands { StandsTo stop parts.old pid }
     ensures keeps { EventKeeps parts.old parts.new result }
     ensures halts { parts.old.mode ≡ Halt → HaltEvent (kind_of hooks.now.chooser.now) parts.old.programs pid parts.old.kept hits.old parts.new.kept hits.new result }
     ensures goes_on { parts.old.mode ≡ GoOn → GoOnEvent (given_by hooks.now parts.old.programs) pid parts.old.kept hits.old parts.new.kept hits.new result }
+    ensures falls { parts.old.mode ≡ Halt → HaltEventFalls (given_by hooks.now parts.old.programs) pid parts.old.kept caught.old parts.new.kept caught.new result }
 {
+    let core = trapped(parts, pid, stop, caught)?;
     let after = event_within(parts, pid, stop, hooks.chooser)?;
+    caught.keep(core);
     let After::Strays(access) = after else {
         return Ok(after);
     };
-    stray(parts, pid, access, hooks, hits)
+    stray(parts, pid, access, hooks, hits, caught)
 }
 
 /// What a turn leaves beside the parts.
@@ -251,6 +308,7 @@ fn events_of<F: Fn(&[Run], u32) -> Option<usize>, G: Fn(&[Span], u32, u32) -> bo
     count: u32,
     hooks: &Hooks<'_, F, G>,
     hits: &mut Hits,
+    caught: &mut Caught,
 ) -> TurnEnd
     requires hooks { AreHooks F.pre F.post G.pre G.post hooks.now }
     requires may { MayGo parts.old pid }
@@ -258,6 +316,7 @@ fn events_of<F: Fn(&[Run], u32) -> Option<usize>, G: Fn(&[Span], u32, u32) -> bo
     ensures keeps { TurnKeeps count parts.old result.events parts.new }
     ensures halts { parts.old.mode ≡ Halt → HaltTurn (given_by hooks.now parts.old.programs) pid count parts.old.kept hits.old result.events parts.new.kept hits.new result.end }
     ensures goes_on { parts.old.mode ≡ GoOn → GoOnTurn (given_by hooks.now parts.old.programs) pid count parts.old.kept hits.old result.events parts.new.kept hits.new result.end }
+    ensures falls { parts.old.mode ≡ Halt → HaltTurnFalls (given_by hooks.now parts.old.programs) pid count parts.old.kept caught.old result.events caught.new result.end }
 {
     let mut events = 0;
     while events < count {
@@ -266,7 +325,7 @@ fn events_of<F: Fn(&[Run], u32) -> Option<usize>, G: Fn(&[Span], u32, u32) -> bo
         if progress.stop == Stop::Next {
             return TurnEnd::over(events);
         }
-        match next_event(parts, pid, progress.stop, hooks, hits) {
+        match next_event(parts, pid, progress.stop, hooks, hits, caught) {
             Ok(After::GoesOn) => events += 1,
             Ok(After::TurnEnds) => return TurnEnd::over(events + 1),
             Ok(After::Strays(access)) => return TurnEnd::with_run(events, End::Stray(access)),
@@ -307,6 +366,7 @@ pub(crate) fn turn<F: Fn(&[Run], u32) -> Option<usize>, G: Fn(&[Span], u32, u32)
     count: u32,
     hooks: &Hooks<'_, F, G>,
     hits: &mut Hits,
+    caught: &mut Caught,
 ) -> TurnEnd
     requires hooks { AreHooks F.pre F.post G.pre G.post hooks.now }
     requires may { MayGo parts.old pid }
@@ -314,9 +374,10 @@ pub(crate) fn turn<F: Fn(&[Run], u32) -> Option<usize>, G: Fn(&[Span], u32, u32)
     ensures copies { has_stray parts.new.kept.notes ≡ false → HoldsFiles parts.new.kept }
     ensures halts { parts.old.mode ≡ Halt → HaltTurn (given_by hooks.now parts.old.programs) pid count parts.old.kept hits.old result.events parts.new.kept hits.new result.end }
     ensures goes_on { parts.old.mode ≡ GoOn → GoOnTurn (given_by hooks.now parts.old.programs) pid count parts.old.kept hits.old result.events parts.new.kept hits.new result.end }
+    ensures falls { parts.old.mode ≡ Halt → HaltTurnFalls (given_by hooks.now parts.old.programs) pid count parts.old.kept caught.old result.events caught.new result.end }
 {
     tell_noted(parts);
-    let ended = events_of(parts, pid, count, hooks, hits);
+    let ended = events_of(parts, pid, count, hooks, hits, caught);
     tell_copies(parts);
     ended
 }
