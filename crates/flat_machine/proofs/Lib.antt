@@ -25,6 +25,7 @@
 -- TurnsOn  a turn by its events, in a run that ends at its first stray access and in one that goes on
 -- HitsRounds  and of runs by quanta
 -- HitsRoundsIn  and of those in the one memory
+-- CaughtOn  a copy of a process is what its world says of it
 -- FallsOn   who falls in a turn does so by its last event
 -- FallsTurned  the core that a turn keeps
 -- FallsRounds  and runs by quanta
@@ -63,6 +64,7 @@ pub mod HitsTurned
 pub mod TurnsOn
 pub mod HitsRounds
 pub mod HitsRoundsIn
+pub mod CaughtOn
 pub mod FallsOn
 pub mod FallsTurned
 pub mod FallsRounds

@@ -39,7 +39,7 @@ pub record Catch : Type 0 where
 abbrev pub wants : Wanted → (pid : ℕ) → Bool
 wants Nothing pid = false
 wants First pid = true
-wants (Pid p) pid = p == pid
+wants (Pid p) pid = pid == p
 
 -- what was kept stays
 abbrev pub or_taken : (fits : Bool) → (found kept : Option Taken) → Option Taken

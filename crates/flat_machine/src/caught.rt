@@ -93,7 +93,7 @@ impl Caught {
         match self.wanted {
             Wanted::Nothing => false,
             Wanted::First => true,
-            Wanted::Pid(wanted) => wanted == pid,
+            Wanted::Pid(wanted) => pid == wanted,
         }
     }
 

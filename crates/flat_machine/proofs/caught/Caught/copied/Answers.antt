@@ -1,0 +1,14 @@
+-- The process is told as its world has it.
+use Rattle.std.proofs.Common.{◌≡◌, true, false, rules}
+use Rattle.std.specs.Prelude.{is_some}
+use Rattle.kept_parts.specs.Stands.{world_of}
+use Rattle.flat_machine.specs.Caught.{taken, wants}
+use Rattle.flat_machine.proofs.CaughtOn.{copy_taken, copy_kept}
+use Rattle.flat_machine.proofs.caught.Caught.copied.Goals as goal
+
+pub returns-clause-taken : goal.returns-clause-taken
+returns-clause-taken c a few =
+    let none : is_some c.args.self.now.core ≡ false = ? in
+    let is : wants c.args.self.now.wanted c.args.pid ≡ true = search rules in
+    copy_kept (wants c.args.self.now.wanted c.args.pid) c.args.self.now.core (taken (world_of a c.args.parts.now) c.args.pid c.args.signal) c.core_of_process.result none is
+    (copy_taken (world_of a c.args.parts.now) c.args.pid c.args.signal c.core_of_process.result (c.core_of_process.ensures.core a) (c.core_of_process.ensures.load a few))
