@@ -4,6 +4,8 @@ use Rattle.std.specs.Prelude.{option_map}
 use Rattle.std.specs.Result.{IsErr}
 use Rattle.std.specs.declared.alloc.AllocError.{AllocError}
 use Rattle.byte_words.specs.declared.access.Access.{Access}
+use Rattle.rv32im_step.specs.declared.stop.Stop.{Stop}
+use Rattle.rv32im_step.specs.declared.stop.Stop.TheVariants.{Next, Call, Trap, Refused}
 use Rattle.page_runs.specs.declared.place.Kind.{Kind}
 use Rattle.bflt_format.specs.Values.{Values}
 use Rattle.call_log.specs.Notes.{Note, stray_note, most_calls}
@@ -13,7 +15,7 @@ use Rattle.vfork_exec.specs.Procs.{CanRun}
 use Rattle.machine_world.specs.World.{World, Process, LiveSpace, pid_of, id_of}
 use Rattle.machine_world.specs.Ages.{kept_calls}
 use Rattle.machine_world.specs.Event.{Outcome, went, strays, full, idle, noted, event}
-use Rattle.machine_world.specs.Courses.{Leads}
+use Rattle.machine_world.specs.Courses.{Leads, StandsAt}
 use Rattle.machine_world.specs.Turns.{turn, Walk}
 use Rattle.machine_world.proofs.TurnLaws.{turn_used}
 use Rattle.waits_laws.specs.Laws.{IsOrdered}
@@ -28,11 +30,13 @@ use Rattle.flat_machine.specs.declared.run.End.{End as Told}
 use Rattle.flat_machine.specs.declared.run.End.TheVariants as told
 use Rattle.flat_machine.specs.declared.turn.After.{After}
 use Rattle.flat_machine.specs.declared.turn.After.TheVariants as after
-use Rattle.flat_machine.specs.Caught.{Taken, Catch, with_load, taken, with_falls}
+use Rattle.flat_machine.specs.Caught.{Taken, Catch, with_load, taken, wants, or_taken, with_fall, with_falls}
+use Rattle.flat_machine.specs.CaughtInside.{or_kept}
 use Rattle.flat_machine.specs.FallsLeft.{EventFalls, TurnFalls}
 use Rattle.flat_machine.specs.Leaves.{CarriedOrEnds}
 use Rattle.flat_machine.proofs.Picks.{may_run}
-use Rattle.flat_machine.proofs.FallsOn.{falls_next, falls_from, falls_none, goes_untrapped, still_untrapped}
+use Rattle.flat_machine.proofs.FallsOn.{signal_at, stands_trap, falls_next, falls_from, falls_none, goes_untrapped, still_untrapped}
+use Rattle.flat_machine.proofs.Turned.{Reached}
 
 -- a process that may run lives
 record Lives (w : World) (pid : ℕ) : Type 0 where
@@ -129,6 +133,77 @@ module _ (a : About) (pid n count : ℕ) (old mid : Kept) (leads : Leads pid (wo
       let there : IsOrdered (turn n pid (world_of a old)).world = turns_keep_ordered n pid (world_of a old) order (may_run a old pid may) in
       let here : IsOrdered (world_of (later n a) mid) = subst IsOrdered (ap (λ (v : Walk). v.world) (turn_used pid (world_of a old) (world_of (later n a) mid) n leads)) there in
       here.sound.calls
+
+-- ---- as the code has it
+
+module _ (kind : Kind) (flats : List Values) (a : About) (so : a.kind ≡ kind) (are : AreFlats a.programs flats) (pid n : ℕ) (old mid : Kept) (reached : Reached kind flats pid old n mid) (can : CanRun mid.procs pid)
+    (before at : Catch) (same : at ≡ before) where
+  -- all of its events were carried out
+  pub all_falls : (count : ℕ) → n ≡ count → at ≡ with_falls before (turn_falls count pid (world_of a old))
+  all_falls count all =
+      turn_falls_none a pid n n old mid (reached a so are) can before at same ∙ ap (λ (m : ℕ). with_falls before (turn_falls m pid (world_of a old))) all
+
+  pub fail_falls : (now : Catch) → now ≡ at → now ≡ with_falls before (turn_falls n pid (world_of a old))
+  fail_falls now none = turn_falls_none a pid n n old mid (reached a so are) can before now (none ∙ same)
+
+  -- the event behind them
+  module _ (ran : CanRun old.procs pid) (order : IsOrdered (world_of a old)) (new : Kept) (now : Catch) where
+    abbrev EventFell : Result After AllocError → Type 0
+    EventFell r = (b : About) → b.kind ≡ kind → AreFlats b.programs flats → kept_calls mid.notes ≤ most_calls → EventFalls pid at now (world_of b mid) (world_of b new) r
+
+    abbrev Went : Result After AllocError → Type 0
+    Went r = (b : About) → b.kind ≡ kind → AreFlats b.programs flats → CarriedOrEnds b (event (world_of b mid) pid) mid new pid r
+
+    abbrev b : About
+    b = later n a
+
+    fell : (r : Result After AllocError) → EventFell r → EventFalls pid before now (world_of b mid) (world_of b new) r
+    fell r e =
+        let P : Catch → Type 0 = λ x. EventFalls pid x now (world_of b mid) (world_of b new) r in
+        subst P same (e b so are (few_calls a pid n n old mid (reached a so are) can ran order))
+
+    pub event_falls_on : Went (Ok after.GoesOn) → EventFell (Ok after.GoesOn) → now ≡ before
+    event_falls_on x e = falls_on b mid new pid before now (x b so are) (fell (Ok after.GoesOn) e)
+
+    module _ (count : ℕ) (less : n < count) where
+      pub event_falls_over : Went (Ok after.TurnEnds) → EventFell (Ok after.TurnEnds) → now ≡ with_falls before (turn_falls count pid (world_of a old))
+      event_falls_over x e =
+          turn_falls_last a pid n count old mid (reached a so are) can before now less (λ left. falls_over b mid new pid before now left (x b so are) (fell (Ok after.TurnEnds) e))
+
+      pub event_falls_full : Went (Ok after.LogFull) → EventFell (Ok after.LogFull) → now ≡ with_falls before (turn_falls count pid (world_of a old))
+      event_falls_full x e =
+          turn_falls_last a pid n count old mid (reached a so are) can before now less (λ left. falls_full b mid new pid before now left (x b so are) (fell (Ok after.LogFull) e))
+
+      pub event_falls_stray : (seen : Access) → Went (Ok (after.Strays seen)) → EventFell (Ok (after.Strays seen)) → now ≡ with_falls before (turn_falls count pid (world_of a old))
+      event_falls_stray seen x e =
+          turn_falls_last a pid n count old mid (reached a so are) can before now less (λ left. falls_stray b mid new pid before now left seen (x b so are) (fell (Ok (after.Strays seen)) e))
+
+-- ---- what is kept by an event
+
+pub no_signal : (stop : Stop) → ((signal : ℕ) → stop ≡ Trap signal → ⊥) → signal_at stop ≡ None
+no_signal Next other = refl
+no_signal Call other = refl
+no_signal (Trap signal) other = absurd (other signal refl)
+no_signal (Refused access) other = refl
+
+-- none by a step that is no trap
+pub none_kept : (w : World) (pid : ℕ) (stop : Stop) (c : Catch) → ((signal : ℕ) → stop ≡ Trap signal → ⊥) → StandsAt w pid stop → c ≡ with_falls c (by_trap w pid (trap_at w pid))
+none_kept w pid stop c other stands = ap (λ (o : Option ℕ). with_falls c (by_trap w pid o)) (sym (stands_trap w pid stop stands ∙ no_signal stop other))
+
+-- and by a trap
+pub trap_kept : (w : World) (pid signal : ℕ) (stop : Stop) (c : Catch) (found : Option Taken) → stop ≡ Trap signal → StandsAt w pid stop
+    → or_kept found c.core ≡ or_taken (wants c.wanted pid) (taken w pid signal) c.core → record c { core = or_kept found c.core } ≡ with_falls c (by_trap w pid (trap_at w pid))
+trap_kept w pid signal stop c found is stands x =
+    ap (λ (t : Option Taken). record c { core = t }) x
+    ∙ ap (λ (o : Option ℕ). with_falls c (by_trap w pid o)) (sym (stands_trap w pid stop stands ∙ ap signal_at is))
+
+-- and by a stray access, which is noted
+pub stray_kept : (old new : World) (note : Note) (pid : ℕ) (c : Catch) (found : Option Taken) → new ≡ noted note old
+    → or_kept found c.core ≡ or_taken (wants c.wanted pid) (taken old pid segv) c.core
+    → record c { core = or_kept found c.core } ≡ with_fall c (record { pid = pid; signal = segv; world = new })
+stray_kept old new note pid c found is x =
+    let same : taken old pid segv ≡ taken new pid segv = sym (ap (λ (w : World). taken w pid segv) is ∙ taken_noted note old pid segv) in
+    ap (λ (t : Option Taken). record c { core = t }) (x ∙ ap (λ (t : Option Taken). or_taken (wants c.wanted pid) t c.core) same)
 
 -- out of memory
 pub falls_fail : (pid n count : ℕ) (before now : Catch) (w : World) (r : Result (Option Told) AllocError) → IsErr r → now ≡ with_falls before (turn_falls n pid w) → TurnFalls pid before now count w n r

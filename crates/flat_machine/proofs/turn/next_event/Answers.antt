@@ -108,8 +108,8 @@ pub returns-in_err-after-clause-halts : goal.returns-in_err-after-clause-halts
 returns-in_err-after-clause-halts g c halt =
     let same = ap (λ (p : RunParts). p.kept) c.in_err-after.ensures.keeps.unchanged in
     record {
-      carried = λ a so are. err_ends a c.args.parts.now.kept c.event_within.new.parts.kept c.args.pid (event (world_of a c.args.parts.now.kept) c.args.pid) c.from_residual.result c.from_residual.ensures.0 same;
-      holds = λ access is. absurd (err_never c.from_residual.result (Strays access) c.from_residual.ensures.0 is);
+      carried = λ a so are. err_ends a c.args.parts.now.kept c.event_within.new.parts.kept c.args.pid (event (world_of a c.args.parts.now.kept) c.args.pid) c.from_residual-in_err-after.result c.from_residual-in_err-after.ensures.0 same;
+      holds = λ access is. absurd (err_never c.from_residual-in_err-after.result (Strays access) c.from_residual-in_err-after.ensures.0 is);
       hits = refl;
     }
 
@@ -119,10 +119,10 @@ returns-in_err-after-clause-goes_on g c go =
     let same = ap (λ (p : RunParts). p.kept) c.in_err-after.ensures.keeps.unchanged in
     record {
       whole = record {
-        memory = λ a so are. err_in headers a c.args.parts.now.kept c.event_within.new.parts.kept c.args.pid c.from_residual.result c.from_residual.ensures.0 same;
+        memory = λ a so are. err_in headers a c.args.parts.now.kept c.event_within.new.parts.kept c.args.pid c.from_residual-in_err-after.result c.from_residual-in_err-after.ensures.0 same;
         hits = λ a so are.
             err_hits (kind_of_point c.args.hooks.now.watcher.now.point.now) c.args.hooks.now.watcher.now.spans.now c.args.pid c.args.hits.now c.args.hits.now (physical_of headers a c.args.parts.now.kept)
-            (physical_of headers (later 1 a) c.event_within.new.parts.kept) c.from_residual.result c.from_residual.ensures.0 refl;
+            (physical_of headers (later 1 a) c.event_within.new.parts.kept) c.from_residual-in_err-after.result c.from_residual-in_err-after.ensures.0 refl;
       };
-      first = λ quiet a so are. err_past a c.args.parts.now.kept c.event_within.new.parts.kept c.args.pid (event (world_of a c.args.parts.now.kept) c.args.pid) c.from_residual.result c.from_residual.ensures.0 same;
+      first = λ quiet a so are. err_past a c.args.parts.now.kept c.event_within.new.parts.kept c.args.pid (event (world_of a c.args.parts.now.kept) c.args.pid) c.from_residual-in_err-after.result c.from_residual-in_err-after.ensures.0 same;
     }

@@ -84,25 +84,13 @@ returns-in-GoOn-clause-goes_on g c go = record {
   past = λ a. past_behind (kind_of c.args.hooks.now.chooser.now) c.args.parts.now.programs c.args.parts.now.kept c.behind_note.new.self.kept c.args.pid c.args.access c.behind_note.result (kept g c) (behind g c) a;
 }
 
+pub returns-in-GoOn-clause-falls : goal.returns-in-GoOn-clause-falls
+returns-in-GoOn-clause-falls g c halt = absurd (let both : Halt ≡ GoOn = sym halt ∙ sym c.mode_of.ensures ∙ c.in-GoOn.is in cc)
+
 -- ---- the run ends there
 
-pub returns-in_ok-note_stray-in-Halt-clause-keeps : goal.returns-in_ok-note_stray-in-Halt-clause-keeps
-returns-in_ok-note_stray-in-Halt-clause-keeps g c = record {
-  keeps = subst (λ (p : RunParts). KeepsRun c.args.parts.now p) (sym c.in_ok-note_stray-in-Halt.ensures.kept) (record { programs = refl; mode = refl; noted = refl });
-  unchanged = tt;
-}
+pub returns-in-Halt-clause-halts : goal.returns-in-Halt-clause-halts
+returns-in-Halt-clause-halts g c halt = record { ends = c.end_astray.ensures.ends; holds = c.end_astray.ensures.holds; hits = refl }
 
-pub returns-in_ok-note_stray-in-Halt-clause-halts : goal.returns-in_ok-note_stray-in-Halt-clause-halts
-returns-in_ok-note_stray-in-Halt-clause-halts g c halt =
-    let noted = c.in_ok-note_stray-in-Halt.ensures in
-    record {
-      ends = λ a. (refl, noted.strays a);
-      holds = noted_holds c.args.pid c.args.access c.args.parts.now.kept c.note_stray.new.self.kept (ap (λ (p : RunParts). p.kept) noted.kept) c.requires.first.quiet noted.sound;
-      hits = refl;
-    }
-
-pub returns-in_ok-note_stray-in-Halt-clause-goes_on : goal.returns-in_ok-note_stray-in-Halt-clause-goes_on
-returns-in_ok-note_stray-in-Halt-clause-goes_on g c go = absurd (let both : Halt ≡ GoOn = sym c.in-Halt.is ∙ c.mode_of.ensures ∙ go in cc)
-
-pub returns-in_err-note_stray-in-Halt-clause-goes_on : goal.returns-in_err-note_stray-in-Halt-clause-goes_on
-returns-in_err-note_stray-in-Halt-clause-goes_on g c go = absurd (let both : Halt ≡ GoOn = sym c.in-Halt.is ∙ c.mode_of.ensures ∙ go in cc)
+pub returns-in-Halt-clause-goes_on : goal.returns-in-Halt-clause-goes_on
+returns-in-Halt-clause-goes_on g c go = absurd (let both : Halt ≡ GoOn = sym c.in-Halt.is ∙ c.mode_of.ensures ∙ go in cc)
