@@ -86,15 +86,15 @@ never_trapped w pid never = by (trap_at w pid) refl
     by None is = is
     by (Some signal) is = absurd (never (trap_gone w pid signal is))
 
-over_of : Outcome → Bool
+abbrev pub over_of : Outcome → Bool
 over_of (went now t) = t.over
 over_of other = true
 
-world_of_went : World → Outcome → World
+abbrev pub world_of_went : World → Outcome → World
 world_of_went w (went now t) = now
 world_of_went w other = w
 
-is_went : Outcome → Bool
+abbrev pub is_went : Outcome → Bool
 is_went (went now t) = true
 is_went other = false
 

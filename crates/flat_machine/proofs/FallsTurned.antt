@@ -1,6 +1,6 @@
 -- The core that a turn keeps.
 use Rattle.std.proofs.Common.{◌≡◌, ℕ, suc, ◌+◌, ◌-◌, ◌<◌, ◌≤◌, true, false, List, [], ◌∷◌, ◌++◌, Option, Some, None, Result, Ok, Err, refl, sym, ap, subst, ◌∙◌, arith, append-nil}
-use Rattle.std.specs.Prelude.{option_map}
+use Rattle.std.specs.Prelude.{option_map, IfOk}
 use Rattle.std.specs.Result.{IsErr}
 use Rattle.std.specs.declared.alloc.AllocError.{AllocError}
 use Rattle.byte_words.specs.declared.access.Access.{Access}
@@ -23,19 +23,20 @@ use Rattle.waits_laws.proofs.Ordered.{turns_keep_ordered}
 use Rattle.kept_parts.specs.Flats.{AreFlats}
 use Rattle.kept_parts.specs.Kept.{Kept}
 use Rattle.kept_parts.specs.Stands.{About, later, world_of}
-use Rattle.core_file.specs.Text.{CoreValue}
+use Rattle.core_file.specs.declared.process.Core as code_core
 use Rattle.core_world.specs.Cores.{core_at, core_for, core_in, load_in}
 use Rattle.core_world.specs.Falls.{Fall, segv, trap_at, by_trap, turn_falls}
 use Rattle.flat_machine.specs.declared.run.End.{End as Told}
 use Rattle.flat_machine.specs.declared.run.End.TheVariants as told
 use Rattle.flat_machine.specs.declared.turn.After.{After}
 use Rattle.flat_machine.specs.declared.turn.After.TheVariants as after
-use Rattle.flat_machine.specs.Caught.{Taken, Catch, with_load, taken, wants, or_taken, with_fall, with_falls}
+use Rattle.flat_machine.specs.Caught.{Taken, taken_value, Catch, with_load, taken, wants, or_taken, with_fall, with_falls}
 use Rattle.flat_machine.specs.CaughtInside.{or_kept}
 use Rattle.flat_machine.specs.FallsLeft.{EventFalls, TurnFalls}
 use Rattle.flat_machine.specs.Leaves.{CarriedOrEnds}
 use Rattle.flat_machine.proofs.Picks.{may_run}
 use Rattle.flat_machine.proofs.FallsOn.{signal_at, stands_trap, falls_next, falls_from, falls_none, goes_untrapped, still_untrapped}
+use Rattle.flat_machine.proofs.EventsOn.{NotStray}
 use Rattle.flat_machine.proofs.Turned.{Reached}
 
 -- a process that may run lives
@@ -143,9 +144,6 @@ module _ (kind : Kind) (flats : List Values) (a : About) (so : a.kind ≡ kind) 
   all_falls count all =
       turn_falls_none a pid n n old mid (reached a so are) can before at same ∙ ap (λ (m : ℕ). with_falls before (turn_falls m pid (world_of a old))) all
 
-  pub fail_falls : (now : Catch) → now ≡ at → now ≡ with_falls before (turn_falls n pid (world_of a old))
-  fail_falls now none = turn_falls_none a pid n n old mid (reached a so are) can before now (none ∙ same)
-
   -- the event behind them
   module _ (ran : CanRun old.procs pid) (order : IsOrdered (world_of a old)) (new : Kept) (now : Catch) where
     abbrev EventFell : Result After AllocError → Type 0
@@ -164,6 +162,9 @@ module _ (kind : Kind) (flats : List Values) (a : About) (so : a.kind ≡ kind) 
 
     pub event_falls_on : Went (Ok after.GoesOn) → EventFell (Ok after.GoesOn) → now ≡ before
     event_falls_on x e = falls_on b mid new pid before now (x b so are) (fell (Ok after.GoesOn) e)
+
+    pub event_falls_fail : (error : AllocError) → EventFell (Err error) → now ≡ with_falls before (turn_falls n pid (world_of a old))
+    event_falls_fail error e = turn_falls_none a pid n n old mid (reached a so are) can before now (fell (Err error) e)
 
     module _ (count : ℕ) (less : n < count) where
       pub event_falls_over : Went (Ok after.TurnEnds) → EventFell (Ok after.TurnEnds) → now ≡ with_falls before (turn_falls count pid (world_of a old))
@@ -197,6 +198,12 @@ trap_kept w pid signal stop c found is stands x =
     ap (λ (t : Option Taken). record c { core = t }) x
     ∙ ap (λ (o : Option ℕ). with_falls c (by_trap w pid o)) (sym (stands_trap w pid stop stands ∙ ap signal_at is))
 
+pub trap_kept_if : (w : World) (pid signal : ℕ) (stop : Stop) (c : Catch) (r : Result (Option code_core.Core) AllocError) → stop ≡ Trap signal → StandsAt w pid stop
+    → IfOk r (λ found. or_kept (option_map taken_value found) c.core ≡ or_taken (wants c.wanted pid) (taken w pid signal) c.core)
+    → IfOk r (λ found. record c { core = or_kept (option_map taken_value found) c.core } ≡ with_falls c (by_trap w pid (trap_at w pid)))
+trap_kept_if w pid signal stop c (Ok found) is stands x = trap_kept w pid signal stop c (option_map taken_value found) is stands x
+trap_kept_if w pid signal stop c (Err error) is stands x = x
+
 -- and by a stray access, which is noted
 pub stray_kept : (old new : World) (note : Note) (pid : ℕ) (c : Catch) (found : Option Taken) → new ≡ noted note old
     → or_kept found c.core ≡ or_taken (wants c.wanted pid) (taken old pid segv) c.core
@@ -205,7 +212,21 @@ stray_kept old new note pid c found is x =
     let same : taken old pid segv ≡ taken new pid segv = sym (ap (λ (w : World). taken w pid segv) is ∙ taken_noted note old pid segv) in
     ap (λ (t : Option Taken). record c { core = t }) (x ∙ ap (λ (t : Option Taken). or_taken (wants c.wanted pid) t c.core) same)
 
--- out of memory
-pub falls_fail : (pid n count : ℕ) (before now : Catch) (w : World) (r : Result (Option Told) AllocError) → IsErr r → now ≡ with_falls before (turn_falls n pid w) → TurnFalls pid before now count w n r
-falls_fail pid n count before now w (Ok end) is x = absurd cc
-falls_fail pid n count before now w (Err error) is x = x
+-- ---- and what that makes of an event
+
+pub other_falls : (pid : ℕ) (before now : Catch) (old new : World) (r : After) → NotStray r → now ≡ with_falls before (by_trap old pid (trap_at old pid)) → EventFalls pid before now old new (Ok r)
+other_falls pid before now old new after.GoesOn other x = x
+other_falls pid before now old new after.TurnEnds other x = x
+other_falls pid before now old new after.LogFull other x = x
+other_falls pid before now old new (after.Strays access) other x = absurd (other access refl)
+
+pub err_falls : (pid : ℕ) (before now : Catch) (old new : World) (r : Result After AllocError) → IsErr r → now ≡ before → EventFalls pid before now old new r
+err_falls pid before now old new (Ok done) is x = absurd cc
+err_falls pid before now old new (Err error) is x = x
+
+-- who strays doesn't trap
+pub stray_falls : (pid : ℕ) (before mid now : Catch) (old new : World) (access : Access) (r : Result After AllocError) → event old pid ≡ strays access
+    → mid ≡ with_falls before (by_trap old pid (trap_at old pid)) → EventFalls pid mid now old new r → EventFalls pid before now old new r
+stray_falls pid before mid now old new access r is same x =
+    let none : mid ≡ before = same ∙ ap (λ (o : Option ℕ). with_falls before (by_trap old pid o)) (still_untrapped old pid (strays access) is refl) in
+    subst (λ (c : Catch). EventFalls pid c now old new r) none x

@@ -13,7 +13,9 @@ use Rattle.watch_points.specs.Points.{kind_of_point}
 use Rattle.flat_machine.specs.declared.turn.After.TheVariants as after
 use Rattle.flat_machine.specs.ByMode.{HaltEvent, GoOnEvent}
 use Rattle.flat_machine.specs.Hooks.{given_by}
-use Rattle.flat_machine.proofs.Turned.{halts_stands}
+use Rattle.flat_machine.specs.FallsLeft.{HaltEventFalls}
+use Rattle.flat_machine.proofs.Turned.{halts_stands, reached_on}
+use Rattle.flat_machine.proofs.FallsTurned.{all_falls, event_falls_on, event_falls_fail, event_falls_over, event_falls_full, event_falls_stray}
 use Rattle.flat_machine.proofs.TurnsIn.{all_within, less_within, standing, still_within, marked_reach, own_quiet}
 use Rattle.flat_machine.proofs.TurnsOn.{halt_none, halt_on, halt_all, halt_event, halt_over, halt_strays, halt_full, halt_fails, goes_on_none, goes_on_on, goes_on_all, goes_on_event, goes_on_over, goes_on_full, goes_on_strays, goes_on_fails, ready_by_mode, hits_same}
 use Rattle.flat_machine.proofs.turn.events_of.Goals as goal
@@ -28,6 +30,7 @@ loop-events-init g c =
       noted = c.requires.noted;
       halts = λ halt. halt_none (kind_of c.args.hooks.now.chooser.now) c.args.parts.now.programs (kind_of_point c.args.hooks.now.watcher.now.point.now) c.args.hooks.now.watcher.now.spans.now c.args.pid c.args.hits.now c.args.parts.now.kept (c.requires.may.halting halt);
       goes_on = λ go. goes_on_none (kind_of c.args.hooks.now.chooser.now) c.args.parts.now.programs (kind_of_point c.args.hooks.now.watcher.now.point.now) c.args.hooks.now.watcher.now.spans.now c.args.pid c.args.hits.now c.args.parts.now.kept;
+      caught = λ halt a so are order. refl;
     }
 
 -- ---- all were instructions
@@ -105,6 +108,13 @@ loop-events-preserved g c =
           let reached = goes_on_on (kind_of c.args.hooks.now.chooser.now) c.args.parts.now.programs (kind_of_point c.args.hooks.now.watcher.now.point.now) c.args.hooks.now.watcher.now.spans.now c.args.pid c.args.hits.now c.args.parts.now.kept c.loop-events.events c.loop-events.hits c.loop-events.parts.kept (c.loop-events.invariant.goes_on go) c.instructions-progress.result.done c.instructions-progress.new.hits c.instructions-progress.new.parts.kept (ap has_stray c.instructions-progress.ensures.keeps.notes) c.instructions-progress.ensures.memory.leads c.instructions-progress.ensures.memory.hits (λ quiet. (c.instructions-progress.ensures.own quiet).leads) in
           let event = subst (λ (ps : List Values). GoOnEvent (given_by c.args.hooks.now ps) c.args.pid c.instructions-progress.new.parts.kept c.instructions-progress.new.hits c.next_event.new.parts.kept c.next_event.new.hits (Ok after.GoesOn)) same (goes_on (c.instructions-progress.ensures.keeps.keeps.mode ∙ c.loop-events.invariant.mode ∙ go)) in
           goes_on_event (kind_of c.args.hooks.now.chooser.now) c.args.parts.now.programs (kind_of_point c.args.hooks.now.watcher.now.point.now) c.args.hooks.now.watcher.now.spans.now c.args.pid c.args.hits.now c.args.parts.now.kept (c.loop-events.events + c.instructions-progress.result.done) c.args.count c.instructions-progress.new.hits c.instructions-progress.new.parts.kept reached (omega (arith, less)) c.next_event.new.parts.kept c.next_event.new.hits event;
+      caught = λ halt a so are order.
+          let own = c.instructions-progress.ensures.own (c.loop-events.invariant.halts halt).quiet in
+          let reached = reached_on (kind_of c.args.hooks.now.chooser.now) c.args.parts.now.programs c.args.pid c.args.parts.now.kept c.loop-events.parts.kept c.instructions-progress.new.parts.kept c.loop-events.events c.instructions-progress.result.done (c.loop-events.invariant.halts halt).leads (λ b so are. own.leads b) in
+          let falls = rw c.in-Ok-GoesOn.field-0-is at c.in-Ok-GoesOn.ensures.falls in
+          let event = subst (λ (ps : List Values). HaltEvent (kind_of c.args.hooks.now.chooser.now) ps c.args.pid c.instructions-progress.new.parts.kept c.instructions-progress.new.hits c.next_event.new.parts.kept c.next_event.new.hits (Ok after.GoesOn)) (c.instructions-progress.ensures.keeps.keeps.programs ∙ c.loop-events.invariant.programs) (halts (c.instructions-progress.ensures.keeps.keeps.mode ∙ c.loop-events.invariant.mode ∙ halt)) in
+          let fell = subst (λ (ps : List Values). HaltEventFalls (given_by c.args.hooks.now ps) c.args.pid c.instructions-progress.new.parts.kept c.loop-events.caught c.next_event.new.parts.kept c.next_event.new.caught (Ok after.GoesOn)) (c.instructions-progress.ensures.keeps.keeps.programs ∙ c.loop-events.invariant.programs) (falls (c.instructions-progress.ensures.keeps.keeps.mode ∙ c.loop-events.invariant.mode ∙ halt)) in
+          event_falls_on (kind_of c.args.hooks.now.chooser.now) c.args.parts.now.programs a so are c.args.pid (c.loop-events.events + c.instructions-progress.result.done) c.args.parts.now.kept c.instructions-progress.new.parts.kept reached c.instructions-progress.ensures.keeps.ready c.args.caught.now c.loop-events.caught (c.loop-events.invariant.caught halt a so are order) c.requires.may.ready order c.next_event.new.parts.kept c.next_event.new.caught event.carried fell;
     }
 
 pub returns-in-Ok-TurnEnds-clause-keeps : goal.returns-in-Ok-TurnEnds-clause-keeps
@@ -247,3 +257,63 @@ returns-clause-goes_on g c go =
     let past = c.loop-events-test.false in
     rw c.over-2.ensures (goes_on_all (kind_of c.args.hooks.now.chooser.now) c.args.parts.now.programs (kind_of_point c.args.hooks.now.watcher.now.point.now) c.args.hooks.now.watcher.now.spans.now c.args.pid c.args.hits.now c.args.parts.now.kept
     c.loop-events.events c.args.count c.loop-events.hits c.loop-events.parts.kept (c.loop-events.invariant.goes_on go) (omega (arith, c.loop-events.invariant.within, past)))
+
+-- ---- the core that is kept
+
+pub returns-then-eq-clause-falls : goal.returns-then-eq-clause-falls
+returns-then-eq-clause-falls g c halt a so are order =
+    let is : c.instructions-progress.result.stop ≡ Next = search rules in
+    let less = c.loop-events-test.true in
+    let all = all_within (reach_of c.instructions-progress.new.parts.noted) (physical_of (headers_of c.args.parts.now.programs) (later c.instructions-progress.result.done some_about) c.instructions-progress.new.parts.kept) c.args.pid (c.args.count - c.loop-events.events) c.instructions-progress.result.done c.instructions-progress.result.stop is (c.instructions-progress.ensures.memory.halts (headers_of c.args.parts.now.programs) some_about) in
+    let own = c.instructions-progress.ensures.own (c.loop-events.invariant.halts halt).quiet in
+    let reached = reached_on (kind_of c.args.hooks.now.chooser.now) c.args.parts.now.programs c.args.pid c.args.parts.now.kept c.loop-events.parts.kept c.instructions-progress.new.parts.kept c.loop-events.events c.instructions-progress.result.done (c.loop-events.invariant.halts halt).leads (λ b so are. own.leads b) in
+    rw c.over.ensures (all_falls (kind_of c.args.hooks.now.chooser.now) c.args.parts.now.programs a so are c.args.pid (c.loop-events.events + c.instructions-progress.result.done) c.args.parts.now.kept c.instructions-progress.new.parts.kept reached c.instructions-progress.ensures.keeps.ready c.args.caught.now c.loop-events.caught (c.loop-events.invariant.caught halt a so are order) c.args.count (omega (arith, all, less)))
+
+pub returns-in-Ok-TurnEnds-clause-falls : goal.returns-in-Ok-TurnEnds-clause-falls
+returns-in-Ok-TurnEnds-clause-falls g c halt a so are order =
+    let other : c.instructions-progress.result.stop ≢ Next = search rules in
+    let less = less_within (reach_of c.instructions-progress.new.parts.noted) c.instructions-progress.new.parts.kept c.args.pid (c.args.count - c.loop-events.events) c.instructions-progress.result.done c.instructions-progress.result.stop other c.instructions-progress.ensures.memory.halts in
+    let own = c.instructions-progress.ensures.own (c.loop-events.invariant.halts halt).quiet in
+    let reached = reached_on (kind_of c.args.hooks.now.chooser.now) c.args.parts.now.programs c.args.pid c.args.parts.now.kept c.loop-events.parts.kept c.instructions-progress.new.parts.kept c.loop-events.events c.instructions-progress.result.done (c.loop-events.invariant.halts halt).leads (λ b so are. own.leads b) in
+    let halts = rw c.in-Ok-TurnEnds.field-0-is at c.in-Ok-TurnEnds.ensures.halts in
+    let falls = rw c.in-Ok-TurnEnds.field-0-is at c.in-Ok-TurnEnds.ensures.falls in
+    let event = subst (λ (ps : List Values). HaltEvent (kind_of c.args.hooks.now.chooser.now) ps c.args.pid c.instructions-progress.new.parts.kept c.instructions-progress.new.hits c.next_event.new.parts.kept c.next_event.new.hits (Ok after.TurnEnds)) (c.instructions-progress.ensures.keeps.keeps.programs ∙ c.loop-events.invariant.programs) (halts (c.instructions-progress.ensures.keeps.keeps.mode ∙ c.loop-events.invariant.mode ∙ halt)) in
+    let fell = subst (λ (ps : List Values). HaltEventFalls (given_by c.args.hooks.now ps) c.args.pid c.instructions-progress.new.parts.kept c.loop-events.caught c.next_event.new.parts.kept c.next_event.new.caught (Ok after.TurnEnds)) (c.instructions-progress.ensures.keeps.keeps.programs ∙ c.loop-events.invariant.programs) (falls (c.instructions-progress.ensures.keeps.keeps.mode ∙ c.loop-events.invariant.mode ∙ halt)) in
+    rw c.over-in-Ok-TurnEnds.ensures (event_falls_over (kind_of c.args.hooks.now.chooser.now) c.args.parts.now.programs a so are c.args.pid (c.loop-events.events + c.instructions-progress.result.done) c.args.parts.now.kept c.instructions-progress.new.parts.kept reached c.instructions-progress.ensures.keeps.ready c.args.caught.now c.loop-events.caught (c.loop-events.invariant.caught halt a so are order) c.requires.may.ready order c.next_event.new.parts.kept c.next_event.new.caught c.args.count (omega (arith, less)) event.carried fell)
+
+pub returns-in-Ok-LogFull-clause-falls : goal.returns-in-Ok-LogFull-clause-falls
+returns-in-Ok-LogFull-clause-falls g c halt a so are order =
+    let other : c.instructions-progress.result.stop ≢ Next = search rules in
+    let less = less_within (reach_of c.instructions-progress.new.parts.noted) c.instructions-progress.new.parts.kept c.args.pid (c.args.count - c.loop-events.events) c.instructions-progress.result.done c.instructions-progress.result.stop other c.instructions-progress.ensures.memory.halts in
+    let own = c.instructions-progress.ensures.own (c.loop-events.invariant.halts halt).quiet in
+    let reached = reached_on (kind_of c.args.hooks.now.chooser.now) c.args.parts.now.programs c.args.pid c.args.parts.now.kept c.loop-events.parts.kept c.instructions-progress.new.parts.kept c.loop-events.events c.instructions-progress.result.done (c.loop-events.invariant.halts halt).leads (λ b so are. own.leads b) in
+    let halts = rw c.in-Ok-LogFull.field-0-is at c.in-Ok-LogFull.ensures.halts in
+    let falls = rw c.in-Ok-LogFull.field-0-is at c.in-Ok-LogFull.ensures.falls in
+    let event = subst (λ (ps : List Values). HaltEvent (kind_of c.args.hooks.now.chooser.now) ps c.args.pid c.instructions-progress.new.parts.kept c.instructions-progress.new.hits c.next_event.new.parts.kept c.next_event.new.hits (Ok after.LogFull)) (c.instructions-progress.ensures.keeps.keeps.programs ∙ c.loop-events.invariant.programs) (halts (c.instructions-progress.ensures.keeps.keeps.mode ∙ c.loop-events.invariant.mode ∙ halt)) in
+    let fell = subst (λ (ps : List Values). HaltEventFalls (given_by c.args.hooks.now ps) c.args.pid c.instructions-progress.new.parts.kept c.loop-events.caught c.next_event.new.parts.kept c.next_event.new.caught (Ok after.LogFull)) (c.instructions-progress.ensures.keeps.keeps.programs ∙ c.loop-events.invariant.programs) (falls (c.instructions-progress.ensures.keeps.keeps.mode ∙ c.loop-events.invariant.mode ∙ halt)) in
+    rw c.with_run-in-Ok-LogFull.ensures (event_falls_full (kind_of c.args.hooks.now.chooser.now) c.args.parts.now.programs a so are c.args.pid (c.loop-events.events + c.instructions-progress.result.done) c.args.parts.now.kept c.instructions-progress.new.parts.kept reached c.instructions-progress.ensures.keeps.ready c.args.caught.now c.loop-events.caught (c.loop-events.invariant.caught halt a so are order) c.requires.may.ready order c.next_event.new.parts.kept c.next_event.new.caught c.args.count (omega (arith, less)) event.carried fell)
+
+pub returns-in-Ok-Strays-clause-falls : goal.returns-in-Ok-Strays-clause-falls
+returns-in-Ok-Strays-clause-falls g c halt a so are order =
+    let other : c.instructions-progress.result.stop ≢ Next = search rules in
+    let less = less_within (reach_of c.instructions-progress.new.parts.noted) c.instructions-progress.new.parts.kept c.args.pid (c.args.count - c.loop-events.events) c.instructions-progress.result.done c.instructions-progress.result.stop other c.instructions-progress.ensures.memory.halts in
+    let own = c.instructions-progress.ensures.own (c.loop-events.invariant.halts halt).quiet in
+    let reached = reached_on (kind_of c.args.hooks.now.chooser.now) c.args.parts.now.programs c.args.pid c.args.parts.now.kept c.loop-events.parts.kept c.instructions-progress.new.parts.kept c.loop-events.events c.instructions-progress.result.done (c.loop-events.invariant.halts halt).leads (λ b so are. own.leads b) in
+    let halts = rw c.in-Ok-Strays.field-0-is at c.in-Ok-Strays.ensures.halts in
+    let falls = rw c.in-Ok-Strays.field-0-is at c.in-Ok-Strays.ensures.falls in
+    let event = subst (λ (ps : List Values). HaltEvent (kind_of c.args.hooks.now.chooser.now) ps c.args.pid c.instructions-progress.new.parts.kept c.instructions-progress.new.hits c.next_event.new.parts.kept c.next_event.new.hits (Ok (after.Strays c.in-Ok-Strays.access))) (c.instructions-progress.ensures.keeps.keeps.programs ∙ c.loop-events.invariant.programs) (halts (c.instructions-progress.ensures.keeps.keeps.mode ∙ c.loop-events.invariant.mode ∙ halt)) in
+    let fell = subst (λ (ps : List Values). HaltEventFalls (given_by c.args.hooks.now ps) c.args.pid c.instructions-progress.new.parts.kept c.loop-events.caught c.next_event.new.parts.kept c.next_event.new.caught (Ok (after.Strays c.in-Ok-Strays.access))) (c.instructions-progress.ensures.keeps.keeps.programs ∙ c.loop-events.invariant.programs) (falls (c.instructions-progress.ensures.keeps.keeps.mode ∙ c.loop-events.invariant.mode ∙ halt)) in
+    rw c.with_run.ensures (event_falls_stray (kind_of c.args.hooks.now.chooser.now) c.args.parts.now.programs a so are c.args.pid (c.loop-events.events + c.instructions-progress.result.done) c.args.parts.now.kept c.instructions-progress.new.parts.kept reached c.instructions-progress.ensures.keeps.ready c.args.caught.now c.loop-events.caught (c.loop-events.invariant.caught halt a so are order) c.requires.may.ready order c.next_event.new.parts.kept c.next_event.new.caught c.args.count (omega (arith, less)) c.in-Ok-Strays.access event.carried fell)
+
+pub returns-in-Err-clause-falls : goal.returns-in-Err-clause-falls
+returns-in-Err-clause-falls g c halt a so are order =
+    let own = c.instructions-progress.ensures.own (c.loop-events.invariant.halts halt).quiet in
+    let reached = reached_on (kind_of c.args.hooks.now.chooser.now) c.args.parts.now.programs c.args.pid c.args.parts.now.kept c.loop-events.parts.kept c.instructions-progress.new.parts.kept c.loop-events.events c.instructions-progress.result.done (c.loop-events.invariant.halts halt).leads (λ b so are. own.leads b) in
+    let fell = subst (λ (ps : List Values). HaltEventFalls (given_by c.args.hooks.now ps) c.args.pid c.instructions-progress.new.parts.kept c.loop-events.caught c.next_event.new.parts.kept c.next_event.new.caught (Err c.in-Err.error)) (c.instructions-progress.ensures.keeps.keeps.programs ∙ c.loop-events.invariant.programs) (c.in-Err.ensures.falls (c.instructions-progress.ensures.keeps.keeps.mode ∙ c.loop-events.invariant.mode ∙ halt)) in
+    event_falls_fail (kind_of c.args.hooks.now.chooser.now) c.args.parts.now.programs a so are c.args.pid (c.loop-events.events + c.instructions-progress.result.done) c.args.parts.now.kept c.instructions-progress.new.parts.kept reached c.instructions-progress.ensures.keeps.ready c.args.caught.now c.loop-events.caught (c.loop-events.invariant.caught halt a so are order) c.requires.may.ready order c.next_event.new.parts.kept c.next_event.new.caught c.in-Err.error fell
+
+pub returns-clause-falls : goal.returns-clause-falls
+returns-clause-falls g c halt a so are order =
+    let most = c.loop-events.invariant.within in
+    let past = c.loop-events-test.false in
+    rw c.over-2.ensures (all_falls (kind_of c.args.hooks.now.chooser.now) c.args.parts.now.programs a so are c.args.pid c.loop-events.events c.args.parts.now.kept c.loop-events.parts.kept (c.loop-events.invariant.halts halt).leads c.loop-events.invariant.ready c.args.caught.now c.loop-events.caught (c.loop-events.invariant.caught halt a so are order) c.args.count (omega (arith, most, past)))

@@ -18,6 +18,8 @@ use Rattle.flat_machine.specs.Keeps.{EventKeeps, FirstStrays}
 use Rattle.flat_machine.specs.Leaves.{CarriedOrEnds, CarriedOrPast}
 use Rattle.flat_machine.proofs.TurnsIn.{own_quiet}
 use Rattle.flat_machine.proofs.EventsOn.{NotStray, as_ends, err_ends, err_past, strays_is, past_is, event_reach, carried_whole, err_in, hits_whole, err_hits, firm, strayed_same, if_ok, err_never}
+use Rattle.flat_machine.specs.FallsLeft.{StrayFalls}
+use Rattle.flat_machine.proofs.FallsTurned.{other_falls, err_falls, stray_falls}
 use Rattle.flat_machine.proofs.turn.next_event.Goals as goal
 
 pub returns-in_default-clause-halts : goal.returns-in_default-clause-halts
@@ -126,3 +128,60 @@ returns-in_err-after-clause-goes_on g c go =
       };
       first = λ quiet a so are. err_past a c.args.parts.now.kept c.event_within.new.parts.kept c.args.pid (event (world_of a c.args.parts.now.kept) c.args.pid) c.from_residual-in_err-after.result c.from_residual-in_err-after.ensures.0 same;
     }
+
+-- ---- the core that is kept
+
+pub returns-in_default-clause-falls : goal.returns-in_default-clause-falls
+returns-in_default-clause-falls g c halt a so are few =
+    let old = c.args.parts.now in
+    let quiet = c.requires.stands.may.halting halt in
+    other_falls c.args.pid c.args.caught.now c.keep.new.self (world_of a old.kept) (world_of a c.event_within.new.parts.kept) c.in_ok-after.after (λ access is. c.in_default.not-Strays access is)
+    (c.keep.ensures ∙ c.in_ok-core.ensures.taken quiet a few)
+
+pub returns-clause-falls : goal.returns-clause-falls
+returns-clause-falls g c halt a so are few =
+    let old = c.args.parts.now in
+    let quiet = c.requires.stands.may.halting halt in
+    let within = rw c.in-Strays.is at c.in_ok-after.ensures.goes_on in
+    let halts = rw c.in-Strays.is at c.in_ok-after.ensures.halts in
+    let it = strayed_same (kind_of c.args.hooks.now.chooser.now) old c.event_within.new.parts c.args.pid c.in-Strays.access c.requires.stands.may.halting halts within c.requires.stands.noted c.in_ok-after.ensures.keeps.keeps in
+    let same = it.0 in
+    let is = strays_is a old.kept c.event_within.new.parts.kept c.args.pid c.in-Strays.access (halts halt a so are) in
+    let strayed : StrayFalls c.args.pid old.kept c.keep.new.self c.stray.new.parts.kept c.stray.new.caught c.stray.result =
+    subst (λ (p : RunParts). StrayFalls c.args.pid p.kept c.keep.new.self c.stray.new.parts.kept c.stray.new.caught c.stray.result) same
+    (c.stray.ensures.falls (ap (λ (p : RunParts). p.mode) same ∙ halt)) in
+    stray_falls c.args.pid c.args.caught.now c.keep.new.self c.stray.new.caught (world_of a old.kept) (world_of a c.stray.new.parts.kept) c.in-Strays.access c.stray.result is
+    (c.keep.ensures ∙ c.in_ok-core.ensures.taken quiet a few) (strayed a few)
+
+pub returns-in_err-after-clause-falls : goal.returns-in_err-after-clause-falls
+returns-in_err-after-clause-falls g c halt a so are few =
+    err_falls c.args.pid c.args.caught.now c.args.caught.now (world_of a c.args.parts.now.kept) (world_of a c.event_within.new.parts.kept) c.from_residual-in_err-after.result c.from_residual-in_err-after.ensures.0 refl
+
+-- ---- out of memory for that
+
+pub returns-in_err-core-clause-halts : goal.returns-in_err-core-clause-halts
+returns-in_err-core-clause-halts g c halt =
+    let kept = c.args.parts.now.kept in
+    record {
+      carried = λ a so are. err_ends a kept kept c.args.pid (event (world_of a kept) c.args.pid) c.from_residual.result c.from_residual.ensures.0 refl;
+      holds = λ access is. absurd (err_never c.from_residual.result (Strays access) c.from_residual.ensures.0 is);
+      hits = refl;
+    }
+
+pub returns-in_err-core-clause-goes_on : goal.returns-in_err-core-clause-goes_on
+returns-in_err-core-clause-goes_on g c go =
+    let headers = headers_of c.args.parts.now.programs in
+    let kept = c.args.parts.now.kept in
+    record {
+      whole = record {
+        memory = λ a so are. err_in headers a kept kept c.args.pid c.from_residual.result c.from_residual.ensures.0 refl;
+        hits = λ a so are.
+            err_hits (kind_of_point c.args.hooks.now.watcher.now.point.now) c.args.hooks.now.watcher.now.spans.now c.args.pid c.args.hits.now c.args.hits.now (physical_of headers a kept)
+            (physical_of headers (later 1 a) kept) c.from_residual.result c.from_residual.ensures.0 refl;
+      };
+      first = λ quiet a so are. err_past a kept kept c.args.pid (event (world_of a kept) c.args.pid) c.from_residual.result c.from_residual.ensures.0 refl;
+    }
+
+pub returns-in_err-core-clause-falls : goal.returns-in_err-core-clause-falls
+returns-in_err-core-clause-falls g c halt a so are few =
+    err_falls c.args.pid c.args.caught.now c.args.caught.now (world_of a c.args.parts.now.kept) (world_of a c.args.parts.now.kept) c.from_residual.result c.from_residual.ensures.0 refl
