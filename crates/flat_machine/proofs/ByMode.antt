@@ -14,22 +14,26 @@ use Rattle.kept_parts.proofs.Common.NotedStrays.{stray_first, stray_reversed}
 use Rattle.kept_parts.specs.Copies.{HoldsFiles}
 use Rattle.waits_laws.specs.Laws.{IsOrdered}
 use Rattle.flat_machine.specs.declared.run.End.{End as Told}
+use Rattle.flat_machine.specs.FallsLeft.{FallsFollow}
 use Rattle.flat_machine.specs.State.{State, world}
 use Rattle.flat_machine.specs.Runs.{Runs}
 use Rattle.flat_machine.specs.RunsIn.{ends_astray, IsHalting}
 use Rattle.flat_machine.specs.ByMode.{HaltRuns}
+use Rattle.flat_machine.proofs.CoreTold.{tells_core}
 use Rattle.flat_machine.proofs.Rounds.{run_keeps_stays}
 use Rattle.flat_machine.proofs.Waiting.{run_keeps_waits, run_waits_where_stuck}
 
-pub halt_runs : (qs : List Quantum) (old new : State) (r : Result Told AllocError) → IsOrdered (world old) → Runs qs old new r → (ends_astray r ≡ false → IsHalting new) → HoldsFiles new.kept
+pub halt_runs : (qs : List Quantum) (old new : State) (r : Result Told AllocError) → IsOrdered (world old) → Runs qs old new r → (ends_astray r ≡ false → IsHalting new) → HoldsFiles new.kept → FallsFollow qs old new r
     → HaltRuns qs old new r
-halt_runs qs old new r ordered runs quiet copies = record {
+halt_runs qs old new r ordered runs quiet copies falls = record {
   turns = runs;
   quiet = quiet;
   copies = copies;
   waits = run_keeps_waits qs old new r ordered runs;
   stuck = run_waits_where_stuck qs old new r ordered runs;
   alone = run_keeps_stays qs old new r ordered.sound runs;
+  falls = falls;
+  core = tells_core qs old new r runs falls;
 }
 
 -- a run that goes on ends at no stray access

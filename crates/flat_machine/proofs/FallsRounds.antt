@@ -24,19 +24,19 @@ with_falls-append c (x ∷ xs) ys = with_falls-append (with_fall c x) xs ys
 
 -- ---- what was kept, and what is left
 
-pub come_none : (found : Catch) (w : World) → FallsCome found found [] w w
-come_none found w back = refl
+pub falls_come_none : (found : Catch) (w : World) → FallsCome found found [] w w
+falls_come_none found w back = refl
 
-pub come_on : (before mid found : Catch) (front more : List Quantum) (old at new : World) → FallsCome before mid front old at → FallsCome mid found more at new → FallsCome before found (front ++ more) old new
-come_on before mid found front more old at new x y back = y back ∙ x (more ++ back) ∙ ap (λ (qs : List Quantum). with_falls before (falls qs old)) (sym (append_assoc front more back))
+pub falls_come_on : (before mid found : Catch) (front more : List Quantum) (old at new : World) → FallsCome before mid front old at → FallsCome mid found more at new → FallsCome before found (front ++ more) old new
+falls_come_on before mid found front more old at new x y back = y back ∙ x (more ++ back) ∙ ap (λ (qs : List Quantum). with_falls before (falls qs old)) (sym (append_assoc front more back))
 
-pub come_all : (before found : Catch) (qs : List Quantum) (old new : World) → falls [] new ≡ [] → FallsCome before found qs old new → found ≡ with_falls before (falls qs old)
-come_all before found qs old new none x =
+pub falls_come_all : (before found : Catch) (qs : List Quantum) (old new : World) → falls [] new ≡ [] → FallsCome before found qs old new → found ≡ with_falls before (falls qs old)
+falls_come_all before found qs old new none x =
     ap (with_falls found) (sym none) ∙ x [] ∙ ap (λ (rs : List Quantum). with_falls before (falls rs old)) (append-nil qs)
 
-pub no_quanta : (w : World) → falls [] w ≡ []
+pub falls_no_quanta : (w : World) → falls [] w ≡ []
 unfolding falls
-no_quanta w = refl
+falls_no_quanta w = refl
 
 -- ---- one quantum
 
@@ -89,7 +89,7 @@ module _ (q : Quantum) (w : World) (pid : ℕ) (chosen : picked q.pick (ready_pi
           still = x.still;
         };
         follow = y ∙ ap (with_falls before)
-            (sym (goes_falls part w pid chosen [] new x.walked x.goes_on ∙ ap (λ (xs : List Fall). turn_falls done pid w ++ xs) (no_quanta new) ∙ append-nil (turn_falls done pid w)));
+            (sym (goes_falls part w pid chosen [] new x.walked x.goes_on ∙ ap (λ (xs : List Fall). turn_falls done pid w ++ xs) (falls_no_quanta new) ∙ append-nil (turn_falls done pid w)));
       }
 
 -- ---- one after the other
@@ -143,7 +143,7 @@ stop_back before found front more old new y =
 
 module _ (qs : List Quantum) (i : ℕ) (d : Quantum) (less : i < length qs) (before mid found : Catch) (old at new : World) (x : FallsCome before mid (take i qs) old at) where
   pub falls_round_on : FallsLeave mid found (get_or qs i d ∷ []) at new (Ok None) → FallsCome before found (take (i + 1) qs) old new
-  falls_round_on y = subst (λ rs. FallsCome before found rs old new) (sym (next_is qs i d less)) (come_on falls before mid found (take i qs) (get_or qs i d ∷ []) old at new x y)
+  falls_round_on y = subst (λ rs. FallsCome before found rs old new) (sym (next_is qs i d less)) (falls_come_on before mid found (take i qs) (get_or qs i d ∷ []) old at new x y)
 
   pub falls_round_ends : (end : Told) → FallsLeave mid found (get_or qs i d ∷ []) at new (Ok (Some end)) → FallsLeave before found qs old new (Ok (Some end))
   falls_round_ends end y = λ back.
@@ -163,7 +163,7 @@ module _ (qs : List Quantum) (i : ℕ) (d : Quantum) (less : i < length qs) (bef
 
 module _ (qs : List Quantum) (i count : ℕ) (less : i < count) (before mid found : Catch) (old at new : World) (x : FallsCome before mid (repeated i qs) old at) where
   pub falls_time_on : FallsLeave mid found qs at new (Ok None) → FallsCome before found (repeated (i + 1) qs) old new
-  falls_time_on y = subst (λ rs. FallsCome before found rs old new) (sym (repeated_more i qs)) (come_on falls before mid found (repeated i qs) qs old at new x y)
+  falls_time_on y = subst (λ rs. FallsCome before found rs old new) (sym (repeated_more i qs)) (falls_come_on before mid found (repeated i qs) qs old at new x y)
 
   pub falls_time_ends : (end : Told) → FallsLeave mid found qs at new (Ok (Some end)) → found ≡ with_falls before (falls (repeated count qs) old)
   falls_time_ends end y =
@@ -175,7 +175,6 @@ module _ (qs : List Quantum) (i count : ℕ) (less : i < count) (before mid foun
       subst (λ rs. FallsStop before found rs old new) (sym (split qs i count less))
       (stop_back before found (repeated i qs ++ qs) (repeated (count - (i + 1)) qs) old new (stop_front before mid found (repeated i qs) qs old at new comes x y))
 
-pub falls_stop : (before found : Catch) (qs : List Quantum) (old new : State) (r : Result Told AllocError) → IsErr r → FallsStop before found qs (world old) (world new)
-    → FallsFollow qs old new r
-falls_stop before found qs old new (Ok end) is y = absurd cc
-falls_stop before found qs old new (Err error) is y = y
+pub falls_stop : (qs : List Quantum) (old new : State) (r : Result Told AllocError) → IsErr r → FallsStop old.caught new.caught qs (world old) (world new) → FallsFollow qs old new r
+falls_stop qs old new (Ok end) is y = absurd cc
+falls_stop qs old new (Err error) is y = y

@@ -86,6 +86,10 @@ module _ (run : Given) (a : About) (so : a.kind ≡ run.kind) (are : AreFlats a.
         by Halt halt = turn_loads a (later done a) n pid count done old new r ((halts halt).leaves a so are) count_is are_old
         by GoOn go = loads_in n count_is (goes_on go) are_old
 
+    -- where it ends the run it leaves a world in order with that too
+    pub halting_behind : CanRun old.procs pid → mode ≡ Halt → IsOrdered (world_of a old) → IsOrdered (world_of (later done a) new)
+    halting_behind can halt order = turn_ordered a (later done a) pid count done old new r ((halts halt).leaves a so are) can order
+
     -- where none was noted behind it none was before it
     pub order_behind : CanRun old.procs pid → (mode ≡ Halt → has_stray old.notes ≡ false) → (has_stray old.notes ≡ false → IsOrdered (world_of a old)) → has_stray new.notes ≡ false
         → IsOrdered (world_of (later done a) new)

@@ -1,5 +1,5 @@
 -- Each start line in order.
-use Rattle.std.proofs.Common.{refl, sym, ap, ◌∙◌, ◌≡◌, ◌+◌, ◌≤◌, List, length, subst, arith}
+use Rattle.std.proofs.Common.{None, refl, sym, ap, ◌∙◌, ◌≡◌, ◌+◌, ◌≤◌, List, length, subst, arith}
 use Rattle.std.proofs.lemmas.List.{length-map, length-replicate}
 use Rattle.call_log.specs.Programs.{paths_of}
 use Rattle.machine_world.specs.Programs.{AreLoaded}
@@ -81,6 +81,7 @@ invariant_of-result g c =
       paths = c.requires.setup.paths;
       loads = subst (λ n. AreLoaded n c.loop-start.parts.notes) (programs_count (paths_of c.args.setup.paths.items) c.args.setup.programs.items same) (loaded_notes a c.loop-start.parts (length rest.programs) loads);
       order = λ quiet. rw (c.kind.ensures) (boots_wait_well rest (lines_of c.deref-start-items.result.now) (world_of a c.loop-start.parts) (record { some = c.requires.setup.some; most = c.requires.setup.most; changes = c.requires.setup.changes }) refl few (sym (all ∙ first_is))).0;
+      halting = λ halt. rw (c.kind.ensures) (boots_wait_well rest (lines_of c.deref-start-items.result.now) (world_of a c.loop-start.parts) (record { some = c.requires.setup.some; most = c.requires.setup.most; changes = c.requires.setup.changes }) refl few (sym (all ∙ first_is))).0;
       strayed = whole_reached (has_stray c.loop-start.parts.notes);
     })
 
@@ -93,9 +94,9 @@ returns-clause-world g c =
     c.loop-start-test.false c.loop-start.invariant.left in
     let parts_is = parts_boot rest (lines_of c.deref-start-items.result.now) a c.loop-start.parts refl (sym (all ∙ first_is)) _ c.args.setup.programs.items c.args.setup.mode c.new-3.ensures in
     let kind = c.kind.ensures in
-    rw (parts_is, ← c.deref-start-items.ensures.value, kind)
+    rw (parts_is, ← c.deref-start-items.ensures.value, kind, c.new-4.ensures)
     (machine_boots (world_of a c.loop-start.parts)
-    (record { kept = c.loop-start.parts; kind = kind_of c.args.chooser.now; paths = paths_of c.args.setup.paths.items; programs = c.args.setup.programs.items; events = 0; mode = c.args.setup.mode; reach = reach_of (has_stray c.loop-start.parts.notes) })
+    (record { kept = c.loop-start.parts; kind = kind_of c.args.chooser.now; paths = paths_of c.args.setup.paths.items; programs = c.args.setup.programs.items; events = 0; mode = c.args.setup.mode; reach = reach_of (has_stray c.loop-start.parts.notes); caught = record { wanted = c.args.setup.core; core = None } })
     (boot rest (lines_of c.deref-start-items.result.now)) (all ∙ first_is) refl)
 
 pub returns-clause-opens : goal.returns-clause-opens
@@ -108,10 +109,11 @@ returns-clause-opens g c =
     let parts_is = parts_boot rest (lines_of c.deref-start-items.result.now) a c.loop-start.parts refl (sym (all ∙ first_is)) _ c.args.setup.programs.items c.args.setup.mode c.new-3.ensures in
     let few : length (lines_of c.deref-start-items.result.now) ≤ most_entries = let items = c.deref-start-items.ensures.value in omega (arith, c.requires.setup.starts, length-map c.deref-start-items.result.now line_of, ap (λ (starts : List StartItem). length starts) items) in
     let kind = c.kind.ensures in
-    rw (parts_is, kind) (record {
+    rw (parts_is, kind, c.new-4.ensures) (record {
       memory = opened (headers_of c.args.setup.programs.items) a c.loop-start.parts c.loop-start.invariant.laid;
       mode = refl;
-      quiet = noted_state (record { kept = c.loop-start.parts; kind = kind_of c.args.chooser.now; paths = paths_of c.args.setup.paths.items; programs = c.args.setup.programs.items; events = 0; mode = c.args.setup.mode; reach = reach_of (has_stray c.loop-start.parts.notes) }) ∙ c.loop-start.invariant.quiet;
+      core = refl;
+      quiet = noted_state (record { kept = c.loop-start.parts; kind = kind_of c.args.chooser.now; paths = paths_of c.args.setup.paths.items; programs = c.args.setup.programs.items; events = 0; mode = c.args.setup.mode; reach = reach_of (has_stray c.loop-start.parts.notes); caught = record { wanted = c.args.setup.core; core = None } }) ∙ c.loop-start.invariant.quiet;
       waits = (boots_wait_well rest (lines_of c.deref-start-items.result.now) (world_of a c.loop-start.parts) (record { some = c.requires.setup.some; most = c.requires.setup.most; changes = c.requires.setup.changes }) refl few (sym (all ∙ first_is))).1;
       stays = rw (← c.deref-start-items.ensures.value) (boots_begin_stays rest (lines_of c.deref-start-items.result.now) (world_of a c.loop-start.parts) (record { some = c.requires.setup.some; most = c.requires.setup.most; changes = c.requires.setup.changes }) (sym (all ∙ first_is)));
     })

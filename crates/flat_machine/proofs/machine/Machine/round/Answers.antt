@@ -13,6 +13,7 @@ use Rattle.watch_points.specs.Points.{kind_of_point}
 use Rattle.flat_machine.specs.Hits.{hits, hits_in_memory}
 use Rattle.flat_machine.proofs.HitsRounds.{come_none, hits_round_on, hits_round_ends, hits_round_fails}
 use Rattle.flat_machine.proofs.HitsRoundsIn.{hits_round_on_in, hits_round_ends_in, hits_round_fails_in}
+use Rattle.flat_machine.proofs.FallsRounds.{falls_come_none, falls_round_on, falls_round_ends, falls_round_fails}
 use Rattle.flat_machine.proofs.machine.Machine.round.Goals as goal
 
 pub loop-quantum-init : goal.loop-quantum-init
@@ -26,6 +27,7 @@ loop-quantum-init g c = record {
   first = λ go quiet. first_quiet [] (world c.args.self.now) (world c.args.self.now) (Ok None) quiet (comes_none (world c.args.self.now));
   hits = λ halting. come_none (hits (kind_of_point c.args.hooks.now.watcher.now.point.now) c.args.hooks.now.watcher.now.spans.now) c.args.hits.now (world c.args.self.now);
   hits_in = λ go. come_none (hits_in_memory (kind_of_point c.args.hooks.now.watcher.now.point.now) c.args.hooks.now.watcher.now.spans.now) c.args.hits.now (one_memory c.args.self.now);
+  falls = λ halting. falls_come_none c.args.self.now.caught (world c.args.self.now);
   events = omega arith;
 }
 
@@ -64,6 +66,7 @@ loop-quantum-preserved g c =
           (c.loop-quantum.invariant.first go quiet) (Ok None) (turn_goes (c.loop-quantum.invariant.mode ∙ go)).memory (turn_goes (c.loop-quantum.invariant.mode ∙ go)).first;
       hits = λ halting. hits_round_on (kind_of_point c.args.hooks.now.watcher.now.point.now) c.args.hooks.now.watcher.now.spans.now c.args.quanta.now c.loop-quantum.quantum-index (record { pick = 0; count = 0 }) c.loop-quantum-test.true c.args.hits.now c.loop-quantum.hits c.take_turn.new.hits (world c.args.self.now) (world c.loop-quantum.self) (world c.take_turn.new.self) (c.loop-quantum.invariant.hits halting) (turn_halts (c.loop-quantum.invariant.halts halting)).hits;
       hits_in = λ go. hits_round_on_in (kind_of_point c.args.hooks.now.watcher.now.point.now) c.args.hooks.now.watcher.now.spans.now c.args.quanta.now c.loop-quantum.quantum-index (record { pick = 0; count = 0 }) c.loop-quantum-test.true c.args.hits.now c.loop-quantum.hits c.take_turn.new.hits (one_memory c.args.self.now) (one_memory c.loop-quantum.self) (one_memory c.take_turn.new.self) (c.loop-quantum.invariant.hits_in go) (turn_goes (c.loop-quantum.invariant.mode ∙ go)).hits;
+      falls = λ halting. falls_round_on c.args.quanta.now c.loop-quantum.quantum-index (record { pick = 0; count = 0 }) c.loop-quantum-test.true c.args.self.now.caught c.loop-quantum.self.caught c.take_turn.new.self.caught (world c.args.self.now) (world c.loop-quantum.self) (world c.take_turn.new.self) (c.loop-quantum.invariant.falls halting) (turn_halts (c.loop-quantum.invariant.halts halting)).falls;
       events = omega (arith, c.loop-quantum.invariant.events);
     }
 
@@ -89,6 +92,7 @@ returns-in_err-end-clause-halts g c halting =
       hits =
           hits_round_fails (kind_of_point c.args.hooks.now.watcher.now.point.now) c.args.hooks.now.watcher.now.spans.now c.args.quanta.now c.loop-quantum.quantum-index (record { pick = 0; count = 0 }) c.loop-quantum-test.true c.args.hits.now c.loop-quantum.hits c.take_turn.new.hits (world c.args.self.now) (world c.loop-quantum.self) (world c.take_turn.new.self)
           (c.loop-quantum.invariant.hits halting) c.from_residual.result c.from_residual.ensures.0 (c.loop-quantum.invariant.comes halting) turn.hits;
+      falls = falls_round_fails c.args.quanta.now c.loop-quantum.quantum-index (record { pick = 0; count = 0 }) c.loop-quantum-test.true c.args.self.now.caught c.loop-quantum.self.caught c.take_turn.new.self.caught (world c.args.self.now) (world c.loop-quantum.self) (world c.take_turn.new.self) (c.loop-quantum.invariant.falls halting) c.from_residual.result c.from_residual.ensures.0 (c.loop-quantum.invariant.comes halting) turn.falls;
     }
 
 pub returns-in_err-end-clause-goes_on : goal.returns-in_err-end-clause-goes_on
@@ -126,6 +130,7 @@ returns-in-Some-clause-halts g c halting =
       hits =
           hits_round_ends (kind_of_point c.args.hooks.now.watcher.now.point.now) c.args.hooks.now.watcher.now.spans.now c.args.quanta.now c.loop-quantum.quantum-index (record { pick = 0; count = 0 }) c.loop-quantum-test.true c.args.hits.now c.loop-quantum.hits c.take_turn.new.hits (world c.args.self.now) (world c.loop-quantum.self) (world c.take_turn.new.self)
           (c.loop-quantum.invariant.hits halting) c.in-Some.end turn.hits;
+      falls = falls_round_ends c.args.quanta.now c.loop-quantum.quantum-index (record { pick = 0; count = 0 }) c.loop-quantum-test.true c.args.self.now.caught c.loop-quantum.self.caught c.take_turn.new.self.caught (world c.args.self.now) (world c.loop-quantum.self) (world c.take_turn.new.self) (c.loop-quantum.invariant.falls halting) c.in-Some.end turn.falls;
     }
 
 pub returns-in-Some-clause-goes_on : goal.returns-in-Some-clause-goes_on
@@ -156,7 +161,8 @@ returns-clause-halts g c halting =
     let all = take_all c.loop-quantum.quantum-index c.args.quanta.now c.loop-quantum-test.false in
     let comes = rw all at (before.comes halting) in
     let found = rw all at (before.hits halting) in
-    record { leaves = comes; quiet = λ calm. before.halts halting; copies = before.copies halting; hits = found }
+    let kept = rw all at (before.falls halting) in
+    record { leaves = comes; quiet = λ calm. before.halts halting; copies = before.copies halting; hits = found; falls = kept }
 
 pub returns-clause-goes_on : goal.returns-clause-goes_on
 returns-clause-goes_on g c go =

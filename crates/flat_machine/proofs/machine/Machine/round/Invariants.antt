@@ -12,6 +12,7 @@ use Rattle.flat_machine.specs.LeavesIn.{LeavesFirst}
 use Rattle.watch_points.specs.Points.{kind_of_point}
 use Rattle.flat_machine.specs.Hits.{hits, hits_in_memory}
 use Rattle.flat_machine.specs.HitsLeft.{HitsCome}
+use Rattle.flat_machine.specs.FallsLeft.{FallsCome}
 use Rattle.flat_machine.proofs.machine.Machine.round.Given as goal
 
 abbrev pub invariant-loop-quantum : goal.invariant-loop-quantum
@@ -25,5 +26,6 @@ invariant-loop-quantum g l = record {
   first : l.fn.self.mode ≡ GoOn → has_stray (world l.fn.self).notes ≡ false → LeavesFirst (take l.quantum-index l.quanta) (world l.fn.self) (world l.self) (Ok None);
   hits : IsHalting l.fn.self → HitsCome (hits (kind_of_point l.hooks.watcher.now.point.now) l.hooks.watcher.now.spans.now) l.fn.hits l.hits (take l.quantum-index l.quanta) (world l.fn.self) (world l.self);
   hits_in : l.fn.self.mode ≡ GoOn → HitsCome (hits_in_memory (kind_of_point l.hooks.watcher.now.point.now) l.hooks.watcher.now.spans.now) l.fn.hits l.hits (take l.quantum-index l.quanta) (one_memory l.fn.self) (one_memory l.self);
+  falls : IsHalting l.fn.self → FallsCome l.fn.self.caught l.self.caught (take l.quantum-index l.quanta) (world l.fn.self) (world l.self);
   events : l.self.events + sum_by (λ q. q.count) (drop l.quantum-index l.quanta) ≤ l.fn.self.events + sum_by (λ q. q.count) l.quanta;
 }

@@ -25,6 +25,7 @@ use Rattle.watch_points.specs.Points.{kind_of_point}
 use Rattle.flat_machine.specs.Hits.{hits, hits_in_memory}
 use Rattle.flat_machine.proofs.HitsRounds.{come_none, come_all, no_quanta, hits_time_on, hits_time_ends, hits_time_fails, hits_fail}
 use Rattle.flat_machine.proofs.HitsRoundsIn.{no_quanta_in, hits_time_on_in, hits_time_ends_in, hits_time_fails_in, hits_fail_in}
+use Rattle.flat_machine.proofs.FallsRounds.{falls_come_none, falls_come_all, falls_no_quanta, falls_time_on, falls_time_ends, falls_time_fails, falls_stop}
 use Rattle.flat_machine.proofs.machine.Machine.run_repeated_watched.Given.{Over}
 use Rattle.flat_machine.proofs.machine.Machine.run_repeated_watched.Goals as goal
 
@@ -40,6 +41,7 @@ loop-time-init g c = record {
   first = λ go quiet. first_quiet [] (world c.args.self.now) (world c.args.self.now) (Ok None) quiet (comes_none (world c.args.self.now));
   hits = λ halting. come_none (hits (kind_of_point c.args.watcher.now.point.now) c.args.watcher.now.spans.now) c.args.hits.now (world c.args.self.now);
   hits_in = λ go. come_none (hits_in_memory (kind_of_point c.args.watcher.now.point.now) c.args.watcher.now.spans.now) c.args.hits.now (one_memory c.args.self.now);
+  falls = λ halting. falls_come_none c.args.self.now.caught (world c.args.self.now);
   events = omega arith;
 }
 
@@ -79,6 +81,7 @@ loop-time-preserved g c =
       first = λ go quiet. time_first c.args.quanta.now c.loop-time._time c.args.count c.loop-time-test.true c.args.self.now c.loop-time.self c.round.new.self (c.loop-time.invariant.first go quiet) (turn_goes (c.loop-time.invariant.mode ∙ go)).memory (turn_goes (c.loop-time.invariant.mode ∙ go)).first;
       hits = λ halting. hits_time_on (kind_of_point c.args.watcher.now.point.now) c.args.watcher.now.spans.now c.args.quanta.now c.loop-time._time c.args.count c.loop-time-test.true c.args.hits.now c.loop-time.hits c.round.new.hits (world c.args.self.now) (world c.loop-time.self) (world c.round.new.self) (c.loop-time.invariant.hits halting) (turn_halts (c.loop-time.invariant.halts halting)).hits;
       hits_in = λ go. hits_time_on_in (kind_of_point c.args.watcher.now.point.now) c.args.watcher.now.spans.now c.args.quanta.now c.loop-time._time c.args.count c.loop-time-test.true c.args.hits.now c.loop-time.hits c.round.new.hits (one_memory c.args.self.now) (one_memory c.loop-time.self) (one_memory c.round.new.self) (c.loop-time.invariant.hits_in go) (turn_goes (c.loop-time.invariant.mode ∙ go)).hits;
+      falls = λ halting. falls_time_on c.args.quanta.now c.loop-time._time c.args.count c.loop-time-test.true c.args.self.now.caught c.loop-time.self.caught c.round.new.self.caught (world c.args.self.now) (world c.loop-time.self) (world c.round.new.self) (c.loop-time.invariant.falls halting) (turn_halts (c.loop-time.invariant.halts halting)).falls;
       events = omega arith;
     }
 
@@ -109,7 +112,9 @@ returns-in_err-end-clause-halts g c halting =
           let turns =
           runs_fail (repeated c.args.count c.args.quanta.now) c.args.self.now c.round.new.self c.from_residual.result c.from_residual.ensures.0
           (time_fails c.args.quanta.now c.loop-time._time c.args.count c.loop-time-test.true (world c.args.self.now) (world c.loop-time.self) (world c.round.new.self) (c.loop-time.invariant.comes halting) turn.leaves) in
-          halt_runs (repeated c.args.count c.args.quanta.now) c.args.self.now c.round.new.self c.from_residual.result (c.kind-kind.ensures.order halting.quiet) turns (λ is. turn.quiet refl) (turn.copies (c.loop-time.invariant.copies halting));
+          halt_runs (repeated c.args.count c.args.quanta.now) c.args.self.now c.round.new.self c.from_residual.result (c.kind-kind.ensures.order halting.quiet) turns (λ is. turn.quiet refl) (turn.copies (c.loop-time.invariant.copies halting))
+          (falls_stop (repeated c.args.count c.args.quanta.now) c.args.self.now c.round.new.self c.from_residual.result c.from_residual.ensures.0
+          (falls_time_fails c.args.quanta.now c.loop-time._time c.args.count c.loop-time-test.true c.args.self.now.caught c.loop-time.self.caught c.round.new.self.caught (world c.args.self.now) (world c.loop-time.self) (world c.round.new.self) (c.loop-time.invariant.falls halting) (c.loop-time.invariant.comes halting) turn.falls));
       hits =
           hits_fail (kind_of_point c.args.watcher.now.point.now) c.args.watcher.now.spans.now c.args.hits.now c.round.new.hits (repeated c.args.count c.args.quanta.now) c.args.self.now c.round.new.self c.from_residual.result c.from_residual.ensures.0
           (hits_time_fails (kind_of_point c.args.watcher.now.point.now) c.args.watcher.now.spans.now c.args.quanta.now c.loop-time._time c.args.count c.loop-time-test.true c.args.hits.now c.loop-time.hits c.round.new.hits (world c.args.self.now) (world c.loop-time.self) (world c.round.new.self) (c.loop-time.invariant.hits halting) (c.loop-time.invariant.comes halting) turn.hits);
@@ -149,7 +154,8 @@ returns-in-Some-2-clause-halts g c halting =
       runs =
           let turns =
           time_ends c.args.quanta.now c.loop-time._time c.args.count c.loop-time-test.true (world c.args.self.now) (world c.loop-time.self) (world c.round.new.self) (c.loop-time.invariant.comes halting) c.in-Some-2.end turn.leaves in
-          halt_runs (repeated c.args.count c.args.quanta.now) c.args.self.now c.round.new.self (Ok c.in-Some-2.end) (c.kind-kind.ensures.order halting.quiet) turns (λ is. turn.quiet (stray_same c.in-Some-2.end ∙ is)) (turn.copies (c.loop-time.invariant.copies halting));
+          halt_runs (repeated c.args.count c.args.quanta.now) c.args.self.now c.round.new.self (Ok c.in-Some-2.end) (c.kind-kind.ensures.order halting.quiet) turns (λ is. turn.quiet (stray_same c.in-Some-2.end ∙ is)) (turn.copies (c.loop-time.invariant.copies halting))
+          (falls_time_ends c.args.quanta.now c.loop-time._time c.args.count c.loop-time-test.true c.args.self.now.caught c.loop-time.self.caught c.round.new.self.caught (world c.args.self.now) (world c.loop-time.self) (world c.round.new.self) (c.loop-time.invariant.falls halting) c.in-Some-2.end turn.falls);
       hits =
           hits_time_ends (kind_of_point c.args.watcher.now.point.now) c.args.watcher.now.spans.now c.args.quanta.now c.loop-time._time c.args.count c.loop-time-test.true c.args.hits.now c.loop-time.hits c.round.new.hits (world c.args.self.now) (world c.loop-time.self) (world c.round.new.self) (c.loop-time.invariant.hits halting) c.in-Some-2.end turn.hits;
     }
@@ -183,7 +189,8 @@ returns-clause-halts g c halting =
           let turns =
           machine_ends (repeated c.args.count c.args.quanta.now) (world c.args.self.now) c.loop-time.self (state_of c.self-2.inside) c.last_end.result c.self-2.view_is
           (rw all at (c.loop-time.invariant.comes halting)) (c.last_end.ensures (about_of (state_of c.self-2.inside))) in
-          halt_runs (repeated c.args.count c.args.quanta.now) c.args.self.now c.loop-time.self (Ok c.last_end.result) (c.kind-kind.ensures.order halting.quiet) turns (λ is. c.loop-time.invariant.halts halting) (c.loop-time.invariant.copies halting);
+          halt_runs (repeated c.args.count c.args.quanta.now) c.args.self.now c.loop-time.self (Ok c.last_end.result) (c.kind-kind.ensures.order halting.quiet) turns (λ is. c.loop-time.invariant.halts halting) (c.loop-time.invariant.copies halting)
+          (falls_come_all c.args.self.now.caught c.loop-time.self.caught (repeated c.args.count c.args.quanta.now) (world c.args.self.now) (world c.loop-time.self) (falls_no_quanta (world c.loop-time.self)) (rw all at (c.loop-time.invariant.falls halting)));
       hits =
           let all : c.loop-time._time ≡ c.args.count = omega (arith, c.loop-time.auto._time-end) in
           come_all (hits (kind_of_point c.args.watcher.now.point.now) c.args.watcher.now.spans.now) c.args.hits.now c.loop-time.hits (repeated c.args.count c.args.quanta.now) (world c.args.self.now) (world c.loop-time.self) (no_quanta (kind_of_point c.args.watcher.now.point.now) c.args.watcher.now.spans.now (world c.loop-time.self))

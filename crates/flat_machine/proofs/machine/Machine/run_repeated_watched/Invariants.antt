@@ -13,6 +13,7 @@ use Rattle.flat_machine.specs.LeavesIn.{LeavesFirst}
 use Rattle.watch_points.specs.Points.{kind_of_point}
 use Rattle.flat_machine.specs.Hits.{hits, hits_in_memory}
 use Rattle.flat_machine.specs.HitsLeft.{HitsCome}
+use Rattle.flat_machine.specs.FallsLeft.{FallsCome}
 use Rattle.flat_machine.proofs.machine.Machine.run_repeated_watched.Given as goal
 
 abbrev pub invariant-loop-time : goal.invariant-loop-time
@@ -26,5 +27,6 @@ invariant-loop-time g l = record {
   first : l.fn.self.mode ≡ GoOn → has_stray (world l.fn.self).notes ≡ false → LeavesFirst (repeated l._time l.quanta) (world l.fn.self) (world l.self) (Ok None);
   hits : IsHalting l.fn.self → HitsCome (hits (kind_of_point l.fn.watcher.point.now) l.fn.watcher.spans.now) l.fn.hits l.hits (repeated l._time l.quanta) (world l.fn.self) (world l.self);
   hits_in : l.fn.self.mode ≡ GoOn → HitsCome (hits_in_memory (kind_of_point l.fn.watcher.point.now) l.fn.watcher.spans.now) l.fn.hits l.hits (repeated l._time l.quanta) (one_memory l.fn.self) (one_memory l.self);
+  falls : IsHalting l.fn.self → FallsCome l.fn.self.caught l.self.caught (repeated l._time l.quanta) (world l.fn.self) (world l.self);
   events : l.self.events ≤ l.fn.self.events + l._time * sum_by (λ q. q.count) l.quanta;
 }

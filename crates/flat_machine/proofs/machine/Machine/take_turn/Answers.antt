@@ -9,6 +9,7 @@ use Rattle.flat_machine.proofs.RoundsIn.{quantum_none_in, quantum_leaves_in, qua
 use Rattle.watch_points.specs.Points.{kind_of_point}
 use Rattle.flat_machine.proofs.HitsRounds.{none_hit, turn_hits_leave}
 use Rattle.flat_machine.proofs.HitsRoundsIn.{none_hit_in, turn_hits_leave_in}
+use Rattle.flat_machine.proofs.FallsRounds.{none_falls, turn_falls_leave}
 use Rattle.flat_machine.proofs.machine.Machine.take_turn.Goals as goal
 
 -- ---- no process may run
@@ -23,6 +24,7 @@ returns-in_default-clause-halts g c halting =
       quiet = λ calm. halting;
       copies = λ held. held;
       hits = rw (← v) (none_hit (kind_of_point c.args.hooks.now.watcher.now.point.now) c.args.hooks.now.watcher.now.spans.now c.args.quantum (world s) c.args.hits.now none);
+      falls = rw (← v) (none_falls c.args.quantum (world s) s.caught none);
     }
 
 pub returns-in_default-clause-goes_on : goal.returns-in_default-clause-goes_on
@@ -58,6 +60,8 @@ returns-clause-halts g c halting =
       copies = λ held. turn.copies;
       hits = turn_hits_leave (kind_of_point c.args.hooks.now.watcher.now.point.now) c.args.hooks.now.watcher.now.spans.now c.args.quantum (world c.args.self.now) c.in-Some.pid picks c.args.hits.now c.turn_of-ended.new.hits c.turn_of-ended.result.events (world c.turn_of-ended.new.self) c.turn_of-ended.result.end
           turn.leaves turn.hits;
+      falls = turn_falls_leave c.args.quantum (world c.args.self.now) c.in-Some.pid picks c.args.self.now.caught c.turn_of-ended.new.self.caught c.turn_of-ended.result.events (world c.turn_of-ended.new.self) c.turn_of-ended.result.end
+          turn.leaves turn.falls;
     }
 
 pub returns-clause-goes_on : goal.returns-clause-goes_on

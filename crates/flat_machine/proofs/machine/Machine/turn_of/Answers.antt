@@ -6,7 +6,7 @@ use Rattle.flat_machine.specs.State.{State, about_of}
 use Rattle.flat_machine.specs.Inside.{state_of}
 use Rattle.flat_machine.proofs.Readers.{are_flats, programs_count}
 use Rattle.flat_machine.proofs.TurnsIn.{reach_noted}
-use Rattle.flat_machine.proofs.TurnsOf.{loads_behind, order_behind, turn_holds, noted_state, halting_state}
+use Rattle.flat_machine.proofs.TurnsOf.{loads_behind, order_behind, halting_behind, turn_holds, noted_state, halting_state}
 use Rattle.flat_machine.proofs.machine.Machine.turn_of.Goals as goal
 
 pub turn-events-requires-clause-may : goal.turn-events-requires-clause-may
@@ -32,6 +32,9 @@ invariant_of-self g c =
       paths = c.self.invariant.paths;
       loads = loads_behind (given_by c.args.hooks.now m.parts.programs) a so are c.args.pid c.args.count c.turn-events.result.events m.parts.kept c.args.hits.now c.turn-events.new.parts.kept c.turn-events.new.hits c.turn-events.result.end m.parts.mode c.turn-events.ensures.halts c.turn-events.ensures.goes_on (length m.parts.programs) (programs_count s.paths s.programs same) c.self.invariant.loads;
       order = rw c.from.ensures (order_behind (given_by c.args.hooks.now m.parts.programs) a so are c.args.pid c.args.count c.turn-events.result.events m.parts.kept c.args.hits.now c.turn-events.new.parts.kept c.turn-events.new.hits c.turn-events.result.end m.parts.mode c.turn-events.ensures.halts c.turn-events.ensures.goes_on ready (λ halt. sym (noted_state s) ∙ halting halt) c.self.invariant.order);
+      halting = λ halt.
+          let was = sym c.turn-events.ensures.keeps.keeps.mode ∙ halt in
+          rw c.from.ensures (halting_behind (given_by c.args.hooks.now m.parts.programs) a so are c.args.pid c.args.count c.turn-events.result.events m.parts.kept c.args.hits.now c.turn-events.new.parts.kept c.turn-events.new.hits c.turn-events.result.end m.parts.mode c.turn-events.ensures.halts c.turn-events.ensures.goes_on ready was (c.self.invariant.halting was));
       strayed = sym c.turn-events.ensures.keeps.keeps.noted ∙ sym (reach_noted c.turn-events.new.parts.noted);
     })
 
@@ -54,11 +57,13 @@ returns-clause-halts g c halting =
     let turn = c.turn-events.ensures.halts halt in
     let leaves = turn.leaves a so are in
     let hits = turn.hits a so are in
+    let falls = c.turn-events.ensures.falls halt a so are (c.self.invariant.halting halt) in
     record {
       leaves = rw (← v, c.from.ensures, c.turn-events.ensures.keeps.keeps.programs) leaves;
       quiet = λ calm. halting_state _ (c.turn-events.ensures.keeps.keeps.mode ∙ halt) (turn.quiet calm);
       copies = turn_holds (given_by c.args.hooks.now m.parts.programs) a so are c.args.pid c.args.count c.turn-events.result.events m.parts.kept c.args.hits.now c.turn-events.new.parts.kept c.turn-events.new.hits c.turn-events.result.end turn c.turn-events.ensures.copies;
       hits = rw (← v) hits;
+      falls = rw (← v) falls;
     }
 
 pub returns-clause-goes_on : goal.returns-clause-goes_on
