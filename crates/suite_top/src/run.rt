@@ -38,7 +38,7 @@ use file_commands::texts::refusals::refused_manifest;
 use file_commands::{
     Answer, Ended, MANIFEST_LIMIT, Status, load_items, load_limited, refuse_line, settled,
 };
-use flat_machine::{BootRefusal, Machine, Setup};
+use flat_machine::{BootRefusal, Machine, Setup, Wanted};
 use host_io::Host;
 use manifest_text::{Dump, Item, Manifest, ManifestRefusal};
 use page_runs::{Chooser, Run};
@@ -146,6 +146,7 @@ where
         stdin: files.stdin,
         mode: telling.mode(),
         keep: keep_of(kept),
+        core: Wanted::Nothing,
     };
     let course = Course {
         quanta: manifest.quanta,

@@ -3,7 +3,7 @@
 ghost use Rattle.manifest_text.specs.Values.{manifest_value};
 ghost use Rattle.manifest_text.specs.Laws.{Reasonable};
 
-use flat_machine::{End, Machine, Setup};
+use flat_machine::{End, Machine, Setup, Wanted};
 use manifest_text::{Manifest, read};
 use page_runs::{Chooser, Kind, Run, first_fit};
 use quantum_sched::Quantum;
@@ -51,6 +51,7 @@ fn booted(rt: HostRuntime, manifest: Manifest, file: &[u8]) -> Result<Machine, F
         stdin: brought.stdin,
         mode: Mode::Halt,
         keep: 0,
+        core: Wanted::Nothing,
     };
     match Machine::boot(rt.alloc(), setup, &chooser) {
         Ok(machine) => Ok(machine),

@@ -30,6 +30,7 @@ boot-requires-clause-setup g c = record {
   paths = c.in_ok-files.ensures.paths;
   starts = rw (← length-map c.args.loaded.manifest.starts.items start_value) c.requires.loaded.manifest.starts;
   args = λ i s is. rw (← length-map s.args.items (λ v. v.items)) (each_got HasArgument start_value c.args.loaded.manifest.starts.items i s is c.requires.loaded.manifest.each_start);
+  core = λ go. refl;
 }
 
 pub run_machine-requires-clause-ready : goal.run_machine-requires-clause-ready
