@@ -96,6 +96,7 @@ with_program code = record {
   tree = None ∷ Some (new_inode (folder 1 (record { name = codes "a"; id = 2 } ∷ [])) None) ∷ Some (new_inode (file (flat code)) (Some 0)) ∷ [];
   programs = record { path = codes "/a"; original = original code } ∷ [];
   headers = header ∷ [];
+  linked = None ∷ [];
   stdin = [];
 }
 

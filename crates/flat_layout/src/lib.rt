@@ -12,5 +12,5 @@ mod rows;
 
 pub use fault::{LayoutFault, has_sections, is_entry_outside, meets};
 pub use layout::Layout;
-pub use numbering::has_bytes;
+pub use numbering::{has_bytes, raised_start};
 pub use rows::holds;

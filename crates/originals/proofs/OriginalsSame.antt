@@ -4,13 +4,15 @@ use Rattle.std.specs.Prelude.{◌⊎◌, MatchResult, IfOk}
 use Rattle.std.proofs.Math.Path.{fun_ext}
 use Rattle.byte_words.specs.Numbers.{IsBytes}
 use Rattle.byte_words.specs.ByteMap.{Bytes}
+use Rattle.elf32_reader.specs.declared.fault.ElfFault.{ElfFault}
+use Rattle.elf32_reader.specs.Faults.{elf_fault}
 use Rattle.flat_layout.specs.Layout.{layout, size_of}
 use Rattle.bflt_format.specs.Values.{Values}
 use Rattle.bflt_format.specs.Image.{flat_image}
 use Rattle.elf2flt_tool.specs.declared.refusal.Refusal.{Refusal}
 use Rattle.elf2flt_tool.specs.declared.refusal.Refusal.TheVariants as refused
 use Rattle.elf2flt_tool.specs.Image.{image}
-use Rattle.elf2flt_tool.specs.Fault.{fault}
+use Rattle.elf2flt_tool.specs.Fault.{fault, fault_from_elf}
 use Rattle.elf2flt_tool.specs.Converted.{converted}
 use Rattle.elf2flt_tool.proofs.ImageLaw.{values_of_flat, image_law}
 use Rattle.flat_loader.specs.Original.{flat_original}
@@ -37,3 +39,8 @@ pub program_is : (e : List ℕ) (stack : ℕ) (r : Result Values Refusal) → ((
     → IfOk r (λ file. flat_original file ≡ elf_original e stack)
 program_is e stack (Ok file) fits limit are = ap flat_original are.1 ∙ sym (converted_original e stack (bytes_of e fits) are.0 limit)
 program_is e stack (Err refusal) fits limit are = tt
+
+-- a file without a fault is an ELF file
+pub is_elf : (e : List ℕ) (first : ElfFault) → fault e ≡ None → elf_fault e ≡ Some first → ⊥
+unfolding fault
+is_elf e first none is = let both : Some (refused.Elf first) ≡ None = sym (ap (fault_from_elf e) is) ∙ none in absurd cc

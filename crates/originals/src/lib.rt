@@ -5,4 +5,4 @@
 
 mod program;
 
-pub use program::elf_program;
+pub use program::{elf_program, linked_start};

@@ -3,11 +3,14 @@
 ghost use Rattle.std.specs.Prelude.{◌≡◌, ◌≤◌, ◌⊎◌, None, Some, MatchResult, IfOk};
 ghost use Rattle.elf2flt_tool.specs.Fault.{fault};
 ghost use Rattle.elf2flt_tool.specs.Converted.{converted};
+ghost use Rattle.flat_layout.specs.Numbering.{raised_start};
 ghost use Rattle.flat_loader.specs.Original.{flat_original};
 ghost use Rattle.originals.specs.Originals.{elf_original};
 
 use bflt_format::Flat;
 use elf2flt_tool::{Refusal, flat_file};
+use elf32_reader::Elf;
+use flat_layout::raised_start;
 use std::alloc::Global;
 
 /// The flat file of a linked ELF file, whose program is that of the ELF file. `stack` is in bytes.
@@ -24,4 +27,16 @@ pub fn elf_program(alloc: Global, bytes: &[u8], stack: u32) -> Result<Flat, Refu
     ensures original { IfOk result (λ file. flat_original file ≡ elf_original bytes.now stack) }
 {
     flat_file(alloc, bytes, stack)
+}
+
+/// V0 + 64 of an ELF file without a fault, as a whole number: the address at which the byte with number 64 was linked. V0 itself may be
+/// below 0.
+pub fn linked_start(bytes: &[u8]) -> u64
+    requires { fault bytes.now ≡ None }
+    ensures { result ≡ raised_start bytes.now }
+{
+    match Elf::read(bytes) {
+        Ok(elf) => raised_start(&elf),
+        Err(_) => 0,
+    }
 }

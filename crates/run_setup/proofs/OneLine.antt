@@ -1,5 +1,5 @@
 -- What one line brings in, where the tree made it or refused it.
-use Rattle.std.proofs.Common.{◌≡◌, ℕ, Vec, List, [], ◌∷◌, ◌++◌, length, map, Some, None, Result, Ok, Err, refl, sym, ap, subst, ◌∙◌, arith, inl, inr, length-append}
+use Rattle.std.proofs.Common.{◌≡◌, ℕ, Vec, List, [], ◌∷◌, ◌++◌, length, map, Option, Some, None, Result, Ok, Err, refl, sym, ap, subst, ◌∙◌, arith, inl, inr, length-append}
 use Rattle.std.specs.Prelude.{◌⊎◌, ⊤}
 use Rattle.std.specs.Result.{IsErr, IsErrAnd}
 use Rattle.std.proofs.lemmas.List.{length-map, map-append}
@@ -38,13 +38,14 @@ refused (Err first) old new Memory made e is with = inl (subst IsMemory (sym is)
 -- ---- a file or a folder
 
 tree_added : (old new : RunFiles) → HasPaths old → HasNodes old → (wanted : Result Inodes log.Errno) (id : ℕ) → ((now : Inodes) → wanted ≡ Ok now → Counts old.tree now) → Makes wanted old.tree new.tree (Ok id)
-    → new.paths ≡ old.paths → new.flats ≡ old.flats → new.stdin ≡ old.stdin → Added (or_errno wanted (with_tree (brought_value old))) old new
-tree_added old new has few wanted id counts made paths flats stdin = record {
+    → new.paths ≡ old.paths → new.flats ≡ old.flats → new.linked ≡ old.linked → new.stdin ≡ old.stdin → Added (or_errno wanted (with_tree (brought_value old))) old new
+tree_added old new has few wanted id counts made paths flats linked stdin = record {
   value =
       ap (λ (r : Result Inodes log.Errno). or_errno r (with_tree (brought_value old))) (made_is wanted old.tree new.tree id made)
-      ∙ ap (λ ps. Ok (record { tree = new.tree; programs = programs_of (paths_of ps.items) old.flats.items; headers = map header_of old.flats.items; stdin = old.stdin.items })) (sym paths)
-      ∙ ap (λ fs. Ok (record { tree = new.tree; programs = programs_of (paths_of new.paths.items) fs.items; headers = map header_of fs.items; stdin = old.stdin.items })) (sym flats)
-      ∙ ap (λ bs. Ok (record { tree = new.tree; programs = programs_of (paths_of new.paths.items) new.flats.items; headers = map header_of new.flats.items; stdin = bs.items })) (sym stdin);
+      ∙ ap (λ ps. Ok (record { tree = new.tree; programs = programs_of (paths_of ps.items) old.flats.items; headers = map header_of old.flats.items; linked = old.linked.items; stdin = old.stdin.items })) (sym paths)
+      ∙ ap (λ fs. Ok (record { tree = new.tree; programs = programs_of (paths_of new.paths.items) fs.items; headers = map header_of fs.items; linked = old.linked.items; stdin = old.stdin.items })) (sym flats)
+      ∙ ap (λ ls. Ok (record { tree = new.tree; programs = programs_of (paths_of new.paths.items) new.flats.items; headers = map header_of new.flats.items; linked = ls.items; stdin = old.stdin.items })) (sym linked)
+      ∙ ap (λ bs. Ok (record { tree = new.tree; programs = programs_of (paths_of new.paths.items) new.flats.items; headers = map header_of new.flats.items; linked = new.linked.items; stdin = bs.items })) (sym stdin);
   paths = ap (λ ps. length ps.items) paths ∙ has ∙ ap (λ fs. length fs.items) (sym flats);
   count =
       let more = counts new.tree (made_is wanted old.tree new.tree id made) in
@@ -53,11 +54,11 @@ tree_added old new has few wanted id counts made paths flats stdin = record {
 }
 
 pub file_added : (old new : RunFiles) → HasPaths old → HasNodes old → (path bytes : List ℕ) (id : ℕ) → Makes (with_file old.tree path bytes None) old.tree new.tree (Ok id)
-    → new.paths ≡ old.paths → new.flats ≡ old.flats → new.stdin ≡ old.stdin → Added (file_brought (brought_value old) path bytes) old new
+    → new.paths ≡ old.paths → new.flats ≡ old.flats → new.linked ≡ old.linked → new.stdin ≡ old.stdin → Added (file_brought (brought_value old) path bytes) old new
 file_added old new has few path bytes id = tree_added old new has few (with_file old.tree path bytes None) id (file_counts old.tree path bytes None)
 
 pub folder_added : (old new : RunFiles) → HasPaths old → HasNodes old → (path : List ℕ) (id : ℕ) → Makes (with_folder old.tree path) old.tree new.tree (Ok id)
-    → new.paths ≡ old.paths → new.flats ≡ old.flats → new.stdin ≡ old.stdin → Added (folder_brought (brought_value old) path) old new
+    → new.paths ≡ old.paths → new.flats ≡ old.flats → new.linked ≡ old.linked → new.stdin ≡ old.stdin → Added (folder_brought (brought_value old) path) old new
 folder_added old new has few path id = tree_added old new has few (with_folder old.tree path) id (folder_counts old.tree path)
 
 -- ---- a program
@@ -79,16 +80,16 @@ programs_more (p ∷ paths) (g ∷ flats) path f same =
 pub paths_more : {Y : Type 0} (olds news : List (Vec ℕ Y)) (v : Vec ℕ Y) (path : List ℕ) → news ≡ olds ++ v ∷ [] → v.items ≡ path → paths_of news ≡ paths_of olds ++ path ∷ []
 paths_more olds news v path are is = ap paths_of are ∙ map-append (λ p. p.items) olds (v ∷ []) ∙ ap (λ p. paths_of olds ++ p ∷ []) is
 
-module _ (old : RunFiles) (has : HasPaths old) (few : HasNodes old) (path : List ℕ) (flat : Values) (bytes : List ℕ) (number : ℕ) (numbered : number ≡ length old.flats.items) where
+module _ (old : RunFiles) (has : HasPaths old) (few : HasNodes old) (path : List ℕ) (flat : Values) (linked : Option ℕ) (bytes : List ℕ) (number : ℕ) (numbered : number ≡ length old.flats.items) where
   abbrev p : Program
   p = record { path = path; original = flat_original flat }
 
   abbrev made_of : Made
-  made_of = record { original = flat_original flat; header = header_of flat; bytes = bytes }
+  made_of = record { original = flat_original flat; header = header_of flat; linked = linked; bytes = bytes }
 
   -- the program stands behind the others in this tree
   abbrev added_in : Inodes → Brought
-  added_in tree = record { tree = tree; programs = (brought_value old).programs ++ p ∷ []; headers = (brought_value old).headers ++ header_of flat ∷ []; stdin = old.stdin.items }
+  added_in tree = record { tree = tree; programs = (brought_value old).programs ++ p ∷ []; headers = (brought_value old).headers ++ header_of flat ∷ []; linked = old.linked.items ++ linked ∷ []; stdin = old.stdin.items }
 
   same_length : length (paths_of old.paths.items) ≡ length old.flats.items
   same_length = length-map old.paths.items (λ path. path.items) ∙ has
@@ -109,9 +110,9 @@ module _ (old : RunFiles) (has : HasPaths old) (few : HasNodes old) (path : List
       ]
 
   pub program_added : (new : RunFiles) (id : ℕ) → Makes (with_file old.tree path bytes (Some number)) old.tree new.tree (Ok id)
-      → paths_of new.paths.items ≡ paths_of old.paths.items ++ path ∷ [] → new.flats.items ≡ old.flats.items ++ flat ∷ [] → new.stdin ≡ old.stdin
+      → paths_of new.paths.items ≡ paths_of old.paths.items ++ path ∷ [] → new.flats.items ≡ old.flats.items ++ flat ∷ [] → new.linked.items ≡ old.linked.items ++ linked ∷ [] → new.stdin ≡ old.stdin
       → Added (with_program (brought_value old) path made_of) old new
-  program_added new id made paths flats stdin =
+  program_added new id made paths flats links stdin =
       let programs : (brought_value new).programs ≡ (brought_value old).programs ++ p ∷ [] =
       ap (λ (ps : List (List ℕ)). programs_of ps new.flats.items) paths
       ∙ ap (programs_of (paths_of old.paths.items ++ path ∷ [])) flats
@@ -125,9 +126,10 @@ module _ (old : RunFiles) (has : HasPaths old) (few : HasNodes old) (path : List
         value =
             by_number
             ∙ ap (λ (r : Result Inodes log.Errno). or_errno r added_in) (made_is (with_file old.tree path bytes (Some number)) old.tree new.tree id made)
-            ∙ ap (λ (ps : List Program). Ok (record { tree = new.tree; programs = ps; headers = (brought_value old).headers ++ header_of flat ∷ []; stdin = old.stdin.items })) (sym programs)
-            ∙ ap (λ (hs : List (List ℕ)). Ok (record { tree = new.tree; programs = (brought_value new).programs; headers = hs; stdin = old.stdin.items })) (sym headers)
-            ∙ ap (λ bs. Ok (record { tree = new.tree; programs = (brought_value new).programs; headers = (brought_value new).headers; stdin = bs.items })) (sym stdin);
+            ∙ ap (λ (ps : List Program). Ok (record { tree = new.tree; programs = ps; headers = (brought_value old).headers ++ header_of flat ∷ []; linked = old.linked.items ++ linked ∷ []; stdin = old.stdin.items })) (sym programs)
+            ∙ ap (λ (hs : List (List ℕ)). Ok (record { tree = new.tree; programs = (brought_value new).programs; headers = hs; linked = old.linked.items ++ linked ∷ []; stdin = old.stdin.items })) (sym headers)
+            ∙ ap (λ (ls : List (Option ℕ)). Ok (record { tree = new.tree; programs = (brought_value new).programs; headers = (brought_value new).headers; linked = ls; stdin = old.stdin.items })) (sym links)
+            ∙ ap (λ bs. Ok (record { tree = new.tree; programs = (brought_value new).programs; headers = (brought_value new).headers; linked = new.linked.items; stdin = bs.items })) (sym stdin);
         paths = omega (arith, len_paths, new_len, len_flats, same);
         count =
             let more = file_counts old.tree path bytes (Some number) new.tree (made_is (with_file old.tree path bytes (Some number)) old.tree new.tree id made) in

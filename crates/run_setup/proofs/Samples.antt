@@ -1,5 +1,5 @@
 -- What a few lines bring in, computed from the definitions.
-use Rattle.std.proofs.Common.{◌≡◌, ℕ, List, [], ◌∷◌, Result, Ok, Err, refl}
+use Rattle.std.proofs.Common.{◌≡◌, ℕ, List, [], ◌∷◌, None, Result, Ok, Err, refl}
 use Rattle.std.specs.Prelude.{codes}
 use Rattle.byte_words.specs.Pieces.{pieces}
 use Rattle.call_log.specs.declared.errno.Errno.TheVariants.{Enoent, Eexist, Enotdir}
@@ -52,7 +52,7 @@ in_folder = refl
 
 -- a program's header stands behind those of the others
 abbrev made : Original → List ℕ → Made
-made o header = record { original = o; header = header; bytes = codes "x" }
+made o header = record { original = o; header = header; linked = None; bytes = codes "x" }
 
 abbrev headers_in : Result Brought LineFault → List (List ℕ)
 headers_in (Ok b) = b.headers

@@ -4,6 +4,7 @@ use Rattle.bflt_format.specs.declared.fault.FlatFault.{FlatFault}
 use Rattle.bflt_format.specs.Header.{flat_values}
 use Rattle.bflt_format.specs.Spelling.{spell}
 use Rattle.bflt_format.specs.Fault.{flat_fault}
+use Rattle.flat_layout.specs.Numbering.{raised_start}
 use Rattle.elf2flt_tool.specs.declared.refusal.Refusal.{Refusal}
 use Rattle.elf2flt_tool.specs.Fault.{fault}
 use Rattle.elf2flt_tool.specs.Converted.{flat}
@@ -31,26 +32,29 @@ pub record Brought : Type 0 where
   pub programs : List Program
   -- the header of each program's flat file
   pub headers : List (List ℕ)
+  -- V0 + 64 of the ELF file of each, none where it is of no elf line
+  pub linked : List (Option ℕ)
   pub stdin : List ℕ
 
 abbrev pub nothing_brought : Brought
-nothing_brought = record { tree = opening; programs = []; headers = []; stdin = [] }
+nothing_brought = record { tree = opening; programs = []; headers = []; linked = []; stdin = [] }
 
 -- ---- programs
 
--- a program, the header of its flat file, and the file that stands at its path
+-- a program, the header of its flat file, where its ELF file was linked, and the file that stands at its path
 pub record Made : Type 0 where
   pub original : Original
   pub header : List ℕ
+  pub linked : Option ℕ
   pub bytes : List ℕ
 
 abbrev pub elf_made : (e : List ℕ) (stack : ℕ) → Option Refusal → Result Made LineFault
 elf_made e stack (Some first) = Err (line.Elf first)
-elf_made e stack None = Ok (record { original = elf_original e stack; header = take header_len (flat e stack); bytes = flat e stack })
+elf_made e stack None = Ok (record { original = elf_original e stack; header = take header_len (flat e stack); linked = Some (raised_start e); bytes = flat e stack })
 
 abbrev pub flat_made : (y : List ℕ) → Option FlatFault → Result Made LineFault
 flat_made y (Some first) = Err (line.Flat first)
-flat_made y None = Ok (record { original = flat_original (flat_values y); header = take header_len (spell (flat_values y)); bytes = y })
+flat_made y None = Ok (record { original = flat_original (flat_values y); header = take header_len (spell (flat_values y)); linked = None; bytes = y })
 
 -- an ELF file is converted, with the stack that its line says; a flat file is taken as it is
 abbrev pub elf_made_of : (e : List ℕ) (stack : ℕ) → Result Made LineFault
@@ -69,7 +73,7 @@ or_errno (Err errno) with = Err (line.Place errno)
 abbrev pub with_program : Brought → (path : List ℕ) → Made → Result Brought LineFault
 with_program b path m =
     or_errno (with_file b.tree path m.bytes (Some (length b.programs)))
-    (λ tree. record b { tree = tree; programs = b.programs ++ record { path = path; original = m.original } ∷ []; headers = b.headers ++ m.header ∷ [] })
+    (λ tree. record b { tree = tree; programs = b.programs ++ record { path = path; original = m.original } ∷ []; headers = b.headers ++ m.header ∷ []; linked = b.linked ++ m.linked ∷ [] })
 
 abbrev pub program_brought : Brought → (path : List ℕ) → Result Made LineFault → Result Brought LineFault
 program_brought b path (Ok m) = with_program b path m

@@ -21,7 +21,7 @@ abbrev pub header_of : Values → List ℕ
 header_of f = take header_len (spell f)
 
 abbrev pub brought_value : RunFiles → Brought
-brought_value f = record { tree = f.tree; programs = programs_of (paths_of f.paths.items) f.flats.items; headers = map header_of f.flats.items; stdin = f.stdin.items }
+brought_value f = record { tree = f.tree; programs = programs_of (paths_of f.paths.items) f.flats.items; headers = map header_of f.flats.items; linked = f.linked.items; stdin = f.stdin.items }
 
 -- each program has its path
 abbrev pub HasPaths : RunFiles → Type 0

@@ -8,7 +8,7 @@ use Rattle.run_setup.specs.Brought.{Made}
 use Rattle.run_setup.specs.Faults.{IsMemory}
 
 abbrev pub made_value : FlatMade → Made
-made_value m = record { original = flat_original m.flat; header = take header_len (spell m.flat); bytes = m.bytes.items }
+made_value m = record { original = flat_original m.flat; header = take header_len (spell m.flat); linked = m.linked; bytes = m.bytes.items }
 
 -- the program, or its fault, or out of memory
 abbrev pub Makes : Result Made LineFault → Result FlatMade LineFault → Type 0

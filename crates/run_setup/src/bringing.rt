@@ -30,6 +30,8 @@ pub struct RunFiles {
     pub paths: Vec<Vec<u8>>,
     /// The flat file of each.
     pub flats: Vec<Flat>,
+    /// Where the ELF file of each was linked: V0 + 64, none where it is of no elf line.
+    pub linked: Vec<Option<u64>>,
     /// The console's input.
     pub stdin: Vec<u8>,
 }
@@ -65,6 +67,7 @@ impl RunFiles {
             tree: Tree::new(alloc)?,
             paths: Vec::new(alloc),
             flats: Vec::new(alloc),
+            linked: Vec::new(alloc),
             stdin: Vec::new(alloc),
         })
     }
@@ -149,7 +152,15 @@ impl RunFiles {
             return self.add_file(path, bytes);
         }
         match Flat::read(alloc, &bytes) {
-            Ok(flat) => self.add_program(alloc, path, Made { flat, bytes }),
+            Ok(flat) => self.add_program(
+                alloc,
+                path,
+                Made {
+                    flat,
+                    linked: None,
+                    bytes,
+                },
+            ),
             Err(FlatFault::Memory) => Err(LineFault::Memory),
             Err(_) => self.add_file(path, bytes),
         }
@@ -162,10 +173,15 @@ impl RunFiles {
         ensures { Brings (with_program (brought_value self.old) path.now (made_value made)) self.old self.new result }
     {
         let number = self.flats.len() as u32;
-        let Made { flat, bytes } = made;
+        let Made {
+            flat,
+            linked,
+            bytes,
+        } = made;
         self.tree.create(path, bytes, Some(number))?;
         self.paths.push(Vec::from_slice(alloc, path)?)?;
         self.flats.push(flat)?;
+        self.linked.push(linked)?;
         Ok(())
     }
 
