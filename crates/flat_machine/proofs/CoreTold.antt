@@ -54,22 +54,25 @@ wanted_stays : (c : Catch) (fs : List Fall) → (with_falls c fs).wanted ≡ c.w
 wanted_stays c [] = refl
 wanted_stays c (f ∷ fs) = wanted_stays (with_fall c f) fs
 
-first_wanted : Wanted → List Fall → Option Fall
+abbrev first_wanted : Wanted → List Fall → Option Fall
 first_wanted wanted [] = None
 first_wanted wanted (f ∷ fs) = if wants wanted f.pid then Some f else first_wanted wanted fs
 
 abbrev none_yet : Wanted → Catch
 none_yet wanted = record { wanted = wanted; core = None }
 
-kept_first : (wanted : Wanted) (fs : List Fall) → AllByRecursion HasCore fs → (with_falls (none_yet wanted) fs).core ≡ taken_if (first_wanted wanted fs)
+abbrev Kept : Wanted → List Fall → Type 0
+Kept wanted fs = (with_falls (none_yet wanted) fs).core ≡ taken_if (first_wanted wanted fs)
+
+kept_next : (wanted : Wanted) (f : Fall) (fs : List Fall) (b : Bool) → wants wanted f.pid ≡ b → HasCore f → Kept wanted fs → Kept wanted (f ∷ fs)
+kept_next wanted f fs true is has more =
+    let t = has_taken f has in
+    rw is (stays (record { wanted = wanted; core = taken_of f }) t.core t.is fs ∙ sym t.is)
+kept_next wanted f fs false is has more = rw is more
+
+kept_first : (wanted : Wanted) (fs : List Fall) → AllByRecursion HasCore fs → Kept wanted fs
 kept_first wanted [] x = refl
-kept_first wanted (f ∷ fs) x = by (wants wanted f.pid) refl
-  where
-    by : (b : Bool) → wants wanted f.pid ≡ b → (with_falls (none_yet wanted) (f ∷ fs)).core ≡ taken_if (first_wanted wanted (f ∷ fs))
-    by true is =
-        let t = has_taken f x.0 in
-        rw is (stays (record { wanted = wanted; core = taken_of f }) t.core t.is fs ∙ sym t.is)
-    by false is = rw is (kept_first wanted fs x.1)
+kept_first wanted (f ∷ fs) x = kept_next wanted f fs (wants wanted f.pid) refl x.0 (kept_first wanted fs x.1)
 
 first_is : (fs : List Fall) → first_wanted First fs ≡ first fs
 first_is [] = refl
@@ -83,6 +86,17 @@ found_is pid (f ∷ fs) = ap (λ (o : Option Fall). if f.pid == pid then Some f 
 none_wanted : (fs : List Fall) → first_wanted Nothing fs ≡ None
 none_wanted [] = refl
 none_wanted (f ∷ fs) = none_wanted fs
+
+-- the one that is found has a core
+one_next : (pid : ℕ) (g : Fall) (gs : List Fall) (f : Fall) (b : Bool) → (g.pid == pid) ≡ b → HasCore g → (first_wanted (Pid pid) gs ≡ Some f → HasTaken f) → first_wanted (Pid pid) (g ∷ gs) ≡ Some f → HasTaken f
+one_next pid g gs f true b has more is =
+    let e : Some g ≡ Some f = ap (λ (x : Bool). if x then Some g else first_wanted (Pid pid) gs) (sym b) ∙ is in
+    let same : g ≡ f = cc in subst HasTaken same (has_taken g has)
+one_next pid g gs f false b has more is = more (ap (λ (x : Bool). if x then Some g else first_wanted (Pid pid) gs) (sym b) ∙ is)
+
+one_taken : (pid : ℕ) (gs : List Fall) (f : Fall) → AllByRecursion HasCore gs → first_wanted (Pid pid) gs ≡ Some f → HasTaken f
+one_taken pid [] f x is = absurd cc
+one_taken pid (g ∷ gs) f x is = one_next pid g gs f (g.pid == pid) refl x.0 (one_taken pid gs f x.1) is
 
 -- ---- what is told
 
@@ -121,21 +135,13 @@ module _ (quanta : List Quantum) (w : World) where
       fell : (f : Fall) → HasTaken f → core_now (Pid pid) (turns quanta w).world (taken_of f) ≡ taken_of f
       fell f t = rw t.is refl
 
-      of_one : (gs : List Fall) (f : Fall) → AllByRecursion HasCore gs → first_wanted (Pid pid) gs ≡ Some f → HasTaken f
-      of_one [] f x is = absurd cc
-      of_one (g ∷ gs) f x is = at (g.pid == pid) refl
-        where
-          at : (b : Bool) → (g.pid == pid) ≡ b → HasTaken f
-          at true b = let e = rw b at is in let same : g ≡ f = cc in subst HasTaken same (has_taken g x.0)
-          at false b = of_one gs f x.1 (rw b at is)
-
       by : (o : Option Fall) → o ≡ find fall_pid pid (falls quanta w) → first_wanted (Pid pid) (falls quanta w) ≡ o
           → core_now (Pid pid) (turns quanta w).world (taken_if o) ≡ taken_if (or_standing (turns quanta w).world pid (find fall_pid pid (falls quanta w)))
       by None is at = stands (turns quanta w).world pid ∙ ap (λ (o : Option Fall). taken_if (or_standing (turns quanta w).world pid o)) is
-      by (Some f) is at = fell f (of_one (falls quanta w) f have at) ∙ ap (λ (o : Option Fall). taken_if (or_standing (turns quanta w).world pid o)) is
+      by (Some f) is at = fell f (one_taken pid (falls quanta w) f have at) ∙ ap (λ (o : Option Fall). taken_if (or_standing (turns quanta w).world pid o)) is
 
 pub tells_core : (quanta : List Quantum) (old new : State) (r : Result Told AllocError) → Runs quanta old new r → FallsFollow quanta old new r → TellsCore quanta old new r
-tells_core quanta old new (Ok end) runs follow none =
+tells_core quanta old new (Ok end) runs follow = λ none.
     let c = old.caught in
     let start : old.caught ≡ none_yet c.wanted = ap (λ (o : Option Taken). record { wanted = c.wanted; core = o }) none in
     let kept : new.caught ≡ with_falls (none_yet c.wanted) (falls quanta (world old)) = follow ∙ ap (λ (x : Catch). with_falls x (falls quanta (world old))) start in
