@@ -64,15 +64,17 @@ none_yet wanted = record { wanted = wanted; core = None }
 abbrev Kept : Wanted → List Fall → Type 0
 Kept wanted fs = (with_falls (none_yet wanted) fs).core ≡ taken_if (first_wanted wanted fs)
 
-kept_next : (wanted : Wanted) (f : Fall) (fs : List Fall) (b : Bool) → wants wanted f.pid ≡ b → HasCore f → Kept wanted fs → Kept wanted (f ∷ fs)
-kept_next wanted f fs true is has more =
-    let t = has_taken f has in
-    rw is (stays (record { wanted = wanted; core = taken_of f }) t.core t.is fs ∙ sym t.is)
-kept_next wanted f fs false is has more = rw is more
+-- by whether the first of them is wanted
+abbrev KeptBy : Wanted → Fall → List Fall → Bool → Type 0
+KeptBy wanted f fs b = (with_falls (record { wanted = wanted; core = if b then taken_of f else None }) fs).core ≡ taken_if (if b then Some f else first_wanted wanted fs)
+
+kept_by : (wanted : Wanted) (f : Fall) (fs : List Fall) (b : Bool) → HasCore f → Kept wanted fs → KeptBy wanted f fs b
+kept_by wanted f fs true has more = let t = has_taken f has in stays (record { wanted = wanted; core = taken_of f }) t.core t.is fs ∙ sym t.is
+kept_by wanted f fs false has more = more
 
 kept_first : (wanted : Wanted) (fs : List Fall) → AllByRecursion HasCore fs → Kept wanted fs
 kept_first wanted [] x = refl
-kept_first wanted (f ∷ fs) x = kept_next wanted f fs (wants wanted f.pid) refl x.0 (kept_first wanted fs x.1)
+kept_first wanted (f ∷ fs) x = kept_by wanted f fs (wants wanted f.pid) x.0 (kept_first wanted fs x.1)
 
 first_is : (fs : List Fall) → first_wanted First fs ≡ first fs
 first_is [] = refl
