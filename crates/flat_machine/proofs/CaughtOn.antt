@@ -1,5 +1,5 @@
 -- A copy of a process is what its world says of it, and is kept where it is wanted.
-use Rattle.std.proofs.Common.{◌≡◌, ℕ, Bool, true, false, not, Option, Some, None, Result, Ok, Err, refl, sym, ap, ◌∙◌}
+use Rattle.std.proofs.Common.{◌≡◌, ℕ, Bool, true, false, Option, Some, None, Result, Ok, Err, refl, ap, ◌∙◌}
 use Rattle.std.specs.Prelude.{IfOk, option_map, is_some}
 use Rattle.std.specs.declared.alloc.AllocError.{AllocError}
 use Rattle.machine_world.specs.World.{World}

@@ -1,24 +1,22 @@
 -- Who falls in a turn does so by its last event, and not before.
-use Rattle.std.proofs.Common.{◌≡◌, ◌≢◌, ℕ, zero, suc, ◌+◌, ◌-◌, ◌<◌, Bool, true, false, if◌then◌else◌, List, [], ◌∷◌, ◌++◌, length, length-append, Option, Some, None, refl, sym, ap, subst, ◌∙◌, arith, append-nil}
+use Rattle.std.proofs.Common.{◌≡◌, ◌≢◌, ℕ, zero, suc, ◌+◌, ◌-◌, ◌<◌, Bool, true, false, if◌then◌else◌, List, [], ◌∷◌, length, length-append, Option, Some, None, refl, sym, ap, subst, ◌∙◌, arith}
 use Rattle.std.specs.Prelude.{option_map}
 use Rattle.std.proofs.lemmas.Bool.{false≢true}
-use Rattle.byte_words.specs.declared.access.Access.{Access}
 use Rattle.rv32im_step.specs.declared.stop.Stop.{Stop}
 use Rattle.rv32im_step.specs.declared.stop.Stop.TheVariants.{Next, Call, Trap, Refused}
 use Rattle.rv32im_step.specs.Meaning.{Meaning, next, call, trap, refused, meaning}
 use Rattle.mmap_rules.specs.Space.{writable_in}
-use Rattle.call_log.specs.Notes.{stray_note}
 use Rattle.vfork_exec.specs.Keyed.{find}
 use Rattle.machine_world.specs.World.{World, Process, LiveSpace, pid_of, id_of}
-use Rattle.machine_world.specs.Families.{all_left_by, all_roused}
-use Rattle.machine_world.specs.Event.{Trace, Outcome, went, strays, full, idle, noted, ended, trapped, settled, effect, event}
-use Rattle.machine_world.specs.Turns.{Walk, remains_at, traced, turned, turn, walked}
+use Rattle.machine_world.specs.Families.{all_left_by}
+use Rattle.machine_world.specs.Event.{Trace, Outcome, went, strays, full, idle, ended, trapped, settled, effect, event}
+use Rattle.machine_world.specs.Turns.{Walk, remains_at, traced, turn, walked}
 use Rattle.machine_world.specs.Courses.{Leads, StandsAt}
 use Rattle.machine_world.proofs.Awake.{find_roused, woke}
 use Rattle.machine_world.proofs.Chains.{find_left_own}
 use Rattle.machine_world.proofs.States.{find_has, event_is}
 use Rattle.machine_world.proofs.TurnLaws.{turn_next}
-use Rattle.core_world.specs.Falls.{Fall, segv, signal_of, trap_in, trap_of, trap_at, by_trap, by_event, turn_falls}
+use Rattle.core_world.specs.Falls.{signal_of, trap_in, trap_of, trap_at, by_event, turn_falls}
 
 -- ---- a trap
 

@@ -1,5 +1,5 @@
 -- The core that a turn keeps.
-use Rattle.std.proofs.Common.{◌≡◌, ℕ, suc, ◌+◌, ◌-◌, ◌<◌, ◌≤◌, true, false, List, [], ◌∷◌, ◌++◌, Option, Some, None, Result, Ok, Err, refl, sym, ap, subst, ◌∙◌, arith, append-nil}
+use Rattle.std.proofs.Common.{◌≡◌, ℕ, suc, ◌+◌, ◌-◌, ◌<◌, ◌≤◌, List, [], ◌∷◌, Option, Some, None, Result, Ok, Err, refl, sym, ap, subst, ◌∙◌, append-nil}
 use Rattle.std.specs.Prelude.{option_map, IfOk}
 use Rattle.std.specs.Result.{IsErr}
 use Rattle.std.specs.declared.alloc.AllocError.{AllocError}
@@ -8,7 +8,7 @@ use Rattle.rv32im_step.specs.declared.stop.Stop.{Stop}
 use Rattle.rv32im_step.specs.declared.stop.Stop.TheVariants.{Next, Call, Trap, Refused}
 use Rattle.page_runs.specs.declared.place.Kind.{Kind}
 use Rattle.bflt_format.specs.Values.{Values}
-use Rattle.call_log.specs.Notes.{Note, stray_note, most_calls}
+use Rattle.call_log.specs.Notes.{Note, most_calls}
 use Rattle.vfork_exec.specs.declared.family.State.TheVariants.{Ready}
 use Rattle.vfork_exec.specs.Keyed.{find}
 use Rattle.vfork_exec.specs.Procs.{CanRun}
@@ -25,14 +25,12 @@ use Rattle.kept_parts.specs.Kept.{Kept}
 use Rattle.kept_parts.specs.Stands.{About, later, world_of}
 use Rattle.core_file.specs.declared.process.Core as code_core
 use Rattle.core_world.specs.Cores.{core_at, core_for, core_in, load_in}
-use Rattle.core_world.specs.Falls.{Fall, segv, trap_at, by_trap, turn_falls}
-use Rattle.flat_machine.specs.declared.run.End.{End as Told}
-use Rattle.flat_machine.specs.declared.run.End.TheVariants as told
+use Rattle.core_world.specs.Falls.{segv, trap_at, by_trap, turn_falls}
 use Rattle.flat_machine.specs.declared.turn.After.{After}
 use Rattle.flat_machine.specs.declared.turn.After.TheVariants as after
 use Rattle.flat_machine.specs.Caught.{Taken, taken_value, Catch, with_load, taken, wants, or_taken, with_fall, with_falls}
 use Rattle.flat_machine.specs.CaughtInside.{or_kept}
-use Rattle.flat_machine.specs.FallsLeft.{EventFalls, TurnFalls}
+use Rattle.flat_machine.specs.FallsLeft.{EventFalls}
 use Rattle.flat_machine.specs.Leaves.{CarriedOrEnds}
 use Rattle.flat_machine.proofs.Picks.{may_run}
 use Rattle.flat_machine.proofs.FallsOn.{signal_at, stands_trap, falls_next, falls_from, falls_none, goes_untrapped, still_untrapped}

@@ -1,5 +1,5 @@
 -- The process is told as it was, which the note doesn't change.
-use Rattle.std.proofs.Common.{◌≡◌, ◌≤◌, sym, ap, subst, ◌∙◌}
+use Rattle.std.proofs.Common.{◌≡◌, ◌≤◌, sym, subst, ◌∙◌}
 use Rattle.std.specs.Prelude.{option_map}
 use Rattle.call_log.specs.Notes.{stray_note, most_calls}
 use Rattle.machine_world.specs.Ages.{kept_calls}

@@ -11,7 +11,7 @@ use Rattle.watch_points.specs.Points.{kind_of_point}
 use Rattle.flat_machine.specs.ByMode.{WholeEvent}
 use Rattle.flat_machine.specs.Hooks.{given_by}
 use Rattle.flat_machine.specs.Keeps.{KeepsRun, EventKeeps}
-use Rattle.flat_machine.proofs.EventsOn.{EventTo, HitsTo, event_to, hits_to, hits_kept, both_kept, either_way, memory_behind, hits_behind, past_behind, noted_holds}
+use Rattle.flat_machine.proofs.EventsOn.{EventTo, HitsTo, event_to, hits_to, hits_kept, both_kept, either_way, memory_behind, hits_behind, past_behind}
 use Rattle.flat_machine.proofs.turn.stray.Given.{Over}
 use Rattle.flat_machine.proofs.turn.stray.Goals as goal
 
