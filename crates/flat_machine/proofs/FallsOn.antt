@@ -143,9 +143,9 @@ module _ (pid : ℕ) (mid : World) (p : Process) (lives : find pid_of pid mid.pr
 
       by : (o : Outcome) → event mid pid ≡ o → turn_falls (suc l) pid mid ≡ []
       by (went now t) is = absurd (
-        let more : Walk = if t.over then remains_at now None else turn l pid now in
-        let one : length (turn (suc l) pid mid).traces ≡ suc (length more.traces) = ap (λ (v : Walk). length v.traces) (turn_next pid mid l (went now t) is) in
-        omega (arith, x.2, long, one))
+          let more : Walk = if t.over then remains_at now None else turn l pid now in
+          let one : length (turn (suc l) pid mid).traces ≡ suc (length more.traces) = ap (λ (v : Walk). length v.traces) (turn_next pid mid l (went now t) is) in
+          omega (arith, x.2, long, one))
       by (strays access) is = absurd (let e = x.1 ∙ ap (λ (v : Walk). v.end) (turn_next pid mid l (strays access) is) in cc)
       by full is = falls_next pid l mid full is
       by idle is = falls_next pid l mid idle is

@@ -116,11 +116,7 @@ impl Caught {
     }
 
     /// The core that is kept, or else that of the process that is wanted, as it stands.
-    pub(crate) fn told(
-        &self,
-        alloc: Global,
-        parts: &KeptParts,
-    ) -> Result<Option<Core>, AllocError>
+    pub(crate) fn told(&self, alloc: Global, parts: &KeptParts) -> Result<Option<Core>, AllocError>
         ensures told { (a : About) → kept_calls parts.now.notes ≤ most_calls →
             IfOk result (λ found. option_map taken_value found ≡ core_now self.now.wanted (world_of a parts.now) self.now.core) }
         ensures fits { IfOk result (λ found. IfSome found (λ core. FitsFile (core_value core))) }

@@ -225,16 +225,11 @@ fn stray<F: Fn(&[Run], u32) -> Option<usize>, G: Fn(&[Span], u32, u32) -> bool>(
 }
 
 /// A copy of a process whose next step ends so, if that is a trap, its core is wanted, and none is kept.
-fn trapped(
-    parts: &Parts,
-    pid: u32,
-    stop: Stop,
-    caught: &Caught,
-) -> Result<Option<Core>, AllocError>
+fn trapped(parts: &Parts, pid: u32, stop: Stop, caught: &Caught) -> Result<Option<Core>, AllocError>
     requires { StandsTo stop parts.now pid }
     ensures taken { has_stray parts.now.kept.notes ≡ false → (a : About) → kept_calls parts.now.kept.notes ≤ most_calls →
         IfOk result (λ found. record caught.now { core = or_kept (option_map taken_value found) caught.now.core } ≡
-            with_falls caught.now (by_trap (world_of a parts.now.kept) pid (trap_at (world_of a parts.now.kept) pid))) }
+        with_falls caught.now (by_trap (world_of a parts.now.kept) pid (trap_at (world_of a parts.now.kept) pid))) }
     ensures fits { IfOk result (λ found. IfSome found (λ core. FitsFile (core_value core))) }
 {
     let Stop::Trap(signal) = stop else {
