@@ -16,7 +16,8 @@
 -- HeldItems   KeepsHeld, a clause of `suite`: the numbers of the items that a run keeps are words, and their lists bytes
 -- StatusLaws, HostLaws   what holds of every call
 --
--- Steps, Refusing, Running    for private functions only: a step of a run, why a machine doesn't start, and what is told behind its run
+-- Steps, Starting, Refusing, Running    for private functions only: a step of a run, its loads and start, why a machine doesn't start, and
+--             what is told behind its run
 pub mod Report
 pub mod Telling
 pub mod Watched
@@ -32,5 +33,6 @@ pub mod HeldItems
 pub mod StatusLaws
 pub mod HostLaws
 pub mod Steps
+pub mod Starting
 pub mod Refusing
 pub mod Running
