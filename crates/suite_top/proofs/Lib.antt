@@ -16,6 +16,7 @@ pub mod RunOutcomes
 pub mod ImageOutcomes
 pub mod ReplayOutcomes
 pub mod Outcomes
+pub mod Starting
 pub mod StatusLaws
 pub mod NoStatus
 pub mod HostLaws
