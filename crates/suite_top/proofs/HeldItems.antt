@@ -35,6 +35,7 @@ use Rattle.suite_top.specs.Telling.{Telling, Report, mode_of, placement_of, kept
 use Rattle.suite_top.specs.KeptItems.{keep_of}
 use Rattle.suite_top.specs.Run.{start_line, opening, stopped_world}
 use Rattle.suite_top.specs.Steps.{EndsFor, manifest_ending, boot_ending}
+use Rattle.suite_top.specs.Starting.{IsEarly}
 use Rattle.suite_top.specs.Opened.{AreThere, OpensFor, IsStop}
 use Rattle.suite_top.specs.HeldItems.{RecordsHeld, StopsHeld, FilesHold, RunHolds, CommandHolds, KeepsHeld}
 use Rattle.suite_top.proofs.Opened.{items_there, within, items_within}
@@ -48,10 +49,6 @@ no_or_memory wanted ending none (inr is) stop = subst (λ (e : Ending). IsStop e
 no_failure : (last : Request) → IsStop (failure_ending last).status → ⊥
 no_failure (load name) stop = stop
 no_failure (store name bytes) stop = stop
-
-no_step : {A F : Type 0} (of : F → Ending) → ((fault : F) → IsStop (of fault).status → ⊥) → (wanted : Result A F) (ending : Ending) → EndsFor of wanted ending → IsStop ending.status → ⊥
-no_step of none (Ok a) ending is stop = subst (λ (e : Ending). IsStop e.status) is stop
-no_step of none (Err fault) ending ends stop = no_or_memory (of fault) ending (none fault) ends stop
 
 -- where a command ended by a stop, its outcome did
 stops_so : (old new : Observed Told) (outcome : Outcome) (ending : Ending) → Performs old new outcome ending → IsStop ending.status → ending ≡ outcome.ending
@@ -71,46 +68,9 @@ each (Some t) P of = of t refl
 performs_at : (old new : Observed Told) (t : Told) (command : Inputs → Outcome) (ending : Ending) → old.told ≡ Some t → PerformsCommand old new command ending → Performs old new (command (inputs_in t.files)) ending
 performs_at old new t command ending told performs = subst (λ (o : Option Told). PerformsOver o old new command ending) told performs
 
--- what goes on so stops no machine
-abbrev no_stop : List ℕ → Inputs → Outcome
-no_stop bytes inputs = at_once usage_ending
-
-abbrev never_stop : List (List ℕ) → Outcome
-never_stop files = at_once usage_ending
-
--- no machine stopped where the manifest isn't there
-pub no_manifest : (telling : Telling) (name : List ℕ) (old new : Observed Told) (ending : Ending) → EndsWithout manifest_limit None old new name ending → RunHolds telling name old.told ending.status
-no_manifest telling name old new ending ends = each old.told _ at
-  where
-    never : (t : Told) → old.told ≡ Some t → IsStop ending.status → ⊥
-    never t told stop =
-        let outcome = with_load manifest_limit None name no_stop (inputs_in t.files) in
-        let is = stops_so old new outcome ending (performs_at old new t (with_load manifest_limit None name no_stop) ending told (ends no_stop)) stop in
-        let (bytes, found, fits, more) =
-        within manifest_limit None name (inputs_in t.files 0 name) (λ bytes. at_once usage_ending) (subst (λ (e : Ending). IsStop e.status) is stop) in
-        more
-
-    at : (t : Told) → old.told ≡ Some t → kept_of telling ≢ None → IsStop ending.status → (o : OpensFor (inputs_in t.files) name telling) → StopsHeld telling o.booted
-    at t told kept stop o = absurd (never t told stop)
-
--- nor where it is refused
-pub no_reading : (telling : Telling) (name : List ℕ) (told : Option Told) (wanted : Result Manifest Fault) (ending : Ending) → EndsFor manifest_ending wanted ending → RunHolds telling name told ending.status
-no_reading telling name told wanted ending ends = each told _ (λ t is kept stop o. absurd (no_step manifest_ending (λ fault more. more) wanted ending ends stop))
-
--- nor where a file of it isn't there
-pub no_files : (telling : Telling) (name : List ℕ) (old now new : Observed Told) (bytes : List ℕ) (items : List Item) (ending : Ending) → GaveFile manifest_limit old now name bytes
-    → ((rest : List (List ℕ) → Outcome) → PerformsCommand now new (with_items files_limit items rest) ending) → RunHolds telling name old.told ending.status
-no_files telling name old now new bytes items ending gave ends = each old.told _ at
-  where
-    never : (t : Told) → now.told ≡ Some t → IsStop ending.status → ⊥
-    never t told stop =
-        let outcome = with_items files_limit items never_stop (inputs_in t.files) in
-        let is = stops_so now new outcome ending (performs_at now new t (with_items files_limit items never_stop) ending told (ends never_stop)) stop in
-        let (files, there, more) = items_within (inputs_in t.files) files_limit items never_stop (subst (λ (e : Ending). IsStop e.status) is stop) in
-        more
-
-    at : (t : Told) → old.told ≡ Some t → kept_of telling ≢ None → IsStop ending.status → (o : OpensFor (inputs_in t.files) name telling) → StopsHeld telling o.booted
-    at t told kept stop o = absurd (never (after_answer t (load name)) (gave.told ∙ ap (option_map (λ u. after_answer u (load name))) told) stop)
+-- no machine stopped where a run ended early
+pub early_holds : (telling : Telling) (name : List ℕ) (told : Option Told) (ending : Ending) → IsEarly ending → RunHolds telling name told ending.status
+early_holds telling name told ending early = each told _ (λ t is kept stop o. absurd (early.no_stop stop))
 
 -- the files that the loads gave are those that are there
 module _ (old now : Observed Told) (t : Told) (told : old.told ≡ Some t) (items : List Item) (files others : List (List ℕ)) (given : GaveFiles old now items files) (there : AreThere (inputs_in t.files) files_limit items others) where
@@ -145,11 +105,8 @@ behind_loads telling name old now new bytes m files status gave reads given hold
 -- ---- behind the loads
 
 module _ (telling : Telling) (m : Manifest) (files : List (List ℕ)) where
-  pub no_brought : (ending : Ending) → EndsFor fault_ending (all_brought m.items files nothing_brought) ending → FilesHold telling m files ending.status
-  no_brought ending ends kept stop b = absurd (no_step fault_ending (λ fault more. more) (all_brought m.items files nothing_brought) ending ends stop)
-
-  pub no_start : (wanted : Result World BootFault) (ending : Ending) → EndsFor boot_ending wanted ending → FilesHold telling m files ending.status
-  no_start wanted ending ends kept stop b = absurd (no_step boot_ending (λ fault more. more) wanted ending ends stop)
+  pub early_files : (ending : Ending) → IsEarly ending → FilesHold telling m files ending.status
+  early_files ending early kept stop b = absurd (early.no_stop stop)
 
   pub no_memory : FilesHold telling m files memory_ending.status
   no_memory kept stop b = absurd stop

@@ -139,10 +139,11 @@ where
     ensures held { FilesHold (telling_value telling.entry) (manifest_value loaded.manifest) (vec_texts loaded.files.items) (settled_ending result).status }
 {
     let kept = telling.kept();
+    let started = start(alloc, loaded, telling, chooser)?;
     let Started {
         mut machine,
         course,
-    } = start(alloc, loaded, telling, chooser)?;
+    } = started;
     let answer = run_machine(alloc, &mut machine, &course, telling, chooser, points)?;
     Ok(keep_items(alloc, machine, kept, answer, host)?)
 }
