@@ -1,5 +1,5 @@
 -- The items that a run keeps are held, from its machine up to the clause of `suite`.
-use Rattle.std.proofs.Common.{◌≡◌, ◌≢◌, ℕ, List, [], ◌∷◌, map, length, get_or, Option, Some, None, Result, Ok, Err, refl, sym, ap, subst, ◌∙◌, inl, inr}
+use Rattle.std.proofs.Common.{◌≡◌, ◌≢◌, ℕ, List, [], ◌∷◌, map, length, get_or, Option, Some, None, Result, Ok, refl, sym, ap, subst, ◌∙◌, inl, inr}
 use Rattle.std.specs.Prelude.{IfSome, option_map}
 use Rattle.std.specs.FinMap.{get}
 use Rattle.std.proofs.lemmas.List.{ext_get_or}
@@ -17,13 +17,13 @@ use Rattle.flat_machine.specs.Runs.{repeated}
 use Rattle.flat_machine.specs.State.{State, world, one_memory}
 use Rattle.file_commands.specs.declared.answer.Answer.{Answer}
 use Rattle.file_commands.specs.declared.status.Status.{Status}
-use Rattle.file_commands.specs.Ending.{Ending, done_ending, usage_ending, memory_ending, OrMemory}
+use Rattle.file_commands.specs.Ending.{Ending, done_ending, memory_ending, OrMemory}
 use Rattle.file_commands.specs.Outcome.{Request, load, store, Outcome, Inputs, failure_ending}
-use Rattle.file_commands.specs.Load.{at_once, with_load}
-use Rattle.file_commands.specs.FileLoad.{GaveFile, EndsWithout}
+use Rattle.file_commands.specs.Load.{at_once}
+use Rattle.file_commands.specs.FileLoad.{GaveFile}
 use Rattle.file_commands.specs.Items.{files_limit, with_items}
 use Rattle.file_commands.specs.ItemLoads.{GaveFiles}
-use Rattle.file_commands.specs.Manifests.{manifest_limit, fault_ending}
+use Rattle.file_commands.specs.Manifests.{manifest_limit}
 use Rattle.file_commands.specs.Observed.{Observed, ObservedSink}
 use Rattle.file_commands.specs.HostCourse.{HostCourse, complete, failed, out_of_memory, after_answer, EndsAfter, Performs, inputs_in, PerformsOver, PerformsCommand}
 use Rattle.file_commands.specs.Delivery.{sink_failed, sink_memory, whole, stopped_at_out, stopped_at_report, Delivers}
@@ -34,11 +34,10 @@ use Rattle.suite_top.specs.Running.{turns_of, TellsHalting, TellsGoingOn}
 use Rattle.suite_top.specs.Telling.{Telling, Report, mode_of, placement_of, kept_of}
 use Rattle.suite_top.specs.KeptItems.{keep_of}
 use Rattle.suite_top.specs.Run.{start_line, opening, stopped_world}
-use Rattle.suite_top.specs.Steps.{EndsFor, manifest_ending, boot_ending}
 use Rattle.suite_top.specs.Starting.{IsEarly}
 use Rattle.suite_top.specs.Opened.{AreThere, OpensFor, IsStop}
 use Rattle.suite_top.specs.HeldItems.{RecordsHeld, StopsHeld, FilesHold, RunHolds, CommandHolds, KeepsHeld}
-use Rattle.suite_top.proofs.Opened.{items_there, within, items_within}
+use Rattle.suite_top.proofs.Opened.{items_there}
 
 -- ---- a status that is no stop
 

@@ -8,7 +8,7 @@
 -- Booted, RunEndings: what a boot of the machine gives, and how a run ends.
 -- Demos: the manifest of a demo.
 -- Each: what a loop has seen of each element.
--- Starting, Started: how a run ends before its first turn, and what it does behind it.
+-- Starting, Behind: how a run ends before its first turn, and what it does behind it.
 -- Opened, HeldItems: when a run reaches its machine, and that the items that it keeps are held.
 pub mod Usage
 pub mod SpelledNumbers
@@ -31,4 +31,4 @@ pub mod Demos
 pub mod Each
 pub mod Opened
 pub mod HeldItems
-pub mod Started
+pub mod Behind

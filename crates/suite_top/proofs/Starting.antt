@@ -1,11 +1,11 @@
 -- A run that ends before its first turn, and what was brought in and opened where it comes to that turn.
-use Rattle.std.proofs.Common.{◌≡◌, ℕ, List, [], Option, Some, None, Result, Ok, Err, refl, subst, inl, inr}
+use Rattle.std.proofs.Common.{ℕ, List, Option, Some, None, Result, Ok, Err, refl, inl, inr}
 use Rattle.host_io.specs.Host.{Told}
 use Rattle.manifest_text.specs.Values.{Item, Manifest}
 use Rattle.manifest_text.specs.Manifest.{Fault}
 use Rattle.machine_world.specs.World.{World}
-use Rattle.machine_world.specs.Boot.{BootFault, boot}
-use Rattle.run_setup.specs.Brought.{Brought, FaultAt, nothing_brought, all_brought}
+use Rattle.machine_world.specs.Boot.{BootFault}
+use Rattle.run_setup.specs.Brought.{Brought, FaultAt}
 use Rattle.file_commands.specs.Ending.{Ending, usage_ending, memory_ending, OrMemory}
 use Rattle.file_commands.specs.Outcome.{Request, load, store, Outcome, Inputs, failure_ending}
 use Rattle.file_commands.specs.Load.{at_once, with_load}

@@ -6,7 +6,7 @@ use Rattle.suite_top.specs.KeptItems.{kept_in}
 use Rattle.suite_top.specs.Telling.{telling_value}
 use Rattle.suite_top.proofs.RunEndings.{out_of_memory}
 use Rattle.suite_top.proofs.HeldItems.{early_files, no_memory}
-use Rattle.suite_top.proofs.Started.{started_performs, started_holds}
+use Rattle.suite_top.proofs.Behind.{started_performs, started_holds}
 use Rattle.suite_top.proofs.Shown.{is_no_failed_load}
 use Rattle.suite_top.proofs.run.run_files.Goals as goal
 

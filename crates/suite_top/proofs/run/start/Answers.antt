@@ -1,5 +1,5 @@
 -- Each step gives what the next one goes on with, or ends the run.
-use Rattle.std.proofs.Common.{refl, sym, ap, ◌∙◌, arith}
+use Rattle.std.proofs.Common.{refl, sym, ◌∙◌, arith}
 use Rattle.std.proofs.lemmas.List.{length-map}
 use Rattle.std.proofs.lemmas.Result.{err_from_is_err_and}
 use Rattle.manifest_text.specs.Values.{start_value, manifest_value, vec_texts}

@@ -1,5 +1,5 @@
 -- A machine that started, run by the lines of its manifest, does what the files of the run give.
-use Rattle.std.proofs.Common.{◌≡◌, ◌≢◌, ℕ, List, None, Ok, sym, ap, subst, ◌∙◌}
+use Rattle.std.proofs.Common.{◌≡◌, ◌≢◌, ℕ, List, None, Ok, ap, subst, ◌∙◌}
 use Rattle.host_io.specs.Host.{Told}
 use Rattle.quantum_sched.specs.declared.Quantum.{Quantum}
 use Rattle.manifest_text.specs.declared.manifest.Dump.{Dump}
