@@ -34,7 +34,7 @@ use Rattle.suite_top.specs.Running.{turns_of, TellsHalting, TellsGoingOn}
 use Rattle.suite_top.specs.Telling.{Telling, Report, mode_of, placement_of, kept_of}
 use Rattle.suite_top.specs.KeptItems.{keep_of}
 use Rattle.suite_top.specs.Run.{start_line, opening, stopped_world}
-use Rattle.suite_top.specs.Starting.{IsEarly}
+use Rattle.suite_top.specs.Opened.{IsEarly}
 use Rattle.suite_top.specs.Opened.{AreThere, OpensFor, IsStop}
 use Rattle.suite_top.specs.HeldItems.{RecordsHeld, StopsHeld, FilesHold, RunHolds, CommandHolds, KeepsHeld}
 use Rattle.suite_top.proofs.Opened.{items_there}

@@ -15,7 +15,7 @@ use Rattle.file_commands.specs.Manifests.{manifest_limit, fault_ending}
 use Rattle.file_commands.specs.Observed.{Observed}
 use Rattle.file_commands.specs.HostCourse.{HostCourse, complete, failed, out_of_memory, EndsAfter, Performs, PerformsOver, PerformsCommand, inputs_in}
 use Rattle.suite_top.specs.Steps.{EndsFor, manifest_ending, boot_ending}
-use Rattle.suite_top.specs.Starting.{IsEarly}
+use Rattle.suite_top.specs.Opened.{IsEarly}
 use Rattle.suite_top.proofs.LoadOutcomes.{load_run, items_run}
 
 -- ---- an early end

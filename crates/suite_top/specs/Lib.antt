@@ -14,6 +14,7 @@
 -- Call        MeetsResult, the clause of `suite`: a course of the outcome, and a delivery of its ending
 -- Opened      Opens: when a run reaches its machine, and the world that it opens
 -- HeldItems   KeepsHeld, a clause of `suite`: the numbers of the items that a run keeps are words, and their lists bytes
+-- Live        a live run: what `out` has taken, and how it ends
 -- StatusLaws, HostLaws   what holds of every call
 --
 -- Steps, Starting, Refusing, Running    for private functions only: a step of a run, its loads and start, why a machine doesn't start, and
@@ -30,6 +31,7 @@ pub mod Points
 pub mod Call
 pub mod Opened
 pub mod HeldItems
+pub mod Live
 pub mod StatusLaws
 pub mod HostLaws
 pub mod Steps

@@ -8,6 +8,7 @@ use Rattle.machine_world.specs.Boot.{boot}
 use Rattle.run_setup.specs.Brought.{Brought, nothing_brought, all_brought}
 use Rattle.file_commands.specs.declared.status.Status.{Status}
 use Rattle.file_commands.specs.declared.status.Status.TheVariants.{Done, Stray, OutOfQuanta, LogFull, Stuck}
+use Rattle.file_commands.specs.Ending.{Ending}
 use Rattle.file_commands.specs.Outcome.{Inputs}
 use Rattle.file_commands.specs.Load.{behind}
 use Rattle.file_commands.specs.Items.{load_limit, files_limit, has_file}
@@ -68,3 +69,8 @@ IsStop OutOfQuanta = Unit {0}
 IsStop LogFull = Unit {0}
 IsStop Stuck = Unit {0}
 IsStop other = ⊥
+
+-- no machine stopped, and nothing goes to `out`
+pub record IsEarly (ending : Ending) : Type 0 where
+  pub no_stop : IsStop ending.status → ⊥
+  pub no_out : ending.out ≡ []

@@ -1,5 +1,5 @@
 -- For private functions only: what the loads of a run give, and the machine that starts with it; or how the run ends before its first turn.
-use Rattle.std.specs.Prelude.{◌≡◌, ℕ, List, [], map, Result, Ok, Err}
+use Rattle.std.specs.Prelude.{◌≡◌, ℕ, List, map, Result, Ok, Err}
 use Rattle.host_io.specs.Host.{Told}
 use Rattle.manifest_text.specs.Values.{Manifest, manifest_value, vec_texts}
 use Rattle.manifest_text.specs.Manifest.{manifest_of}
@@ -22,12 +22,7 @@ use Rattle.suite_top.specs.Telling.{Telling, mode_of, placement_of, kept_of}
 use Rattle.suite_top.specs.KeptItems.{keep_of}
 use Rattle.suite_top.specs.Run.{start_line, opening, files_outcome, run_outcome}
 use Rattle.suite_top.specs.Running.{IsReady}
-use Rattle.suite_top.specs.Opened.{IsStop}
-
--- no machine stopped, and nothing goes to `out`
-pub record IsEarly (ending : Ending) : Type 0 where
-  pub no_stop : IsStop ending.status → ⊥
-  pub no_out : ending.out ≡ []
+use Rattle.suite_top.specs.Opened.{IsEarly}
 
 -- the host gave the manifest and the files of its lines
 pub record GaveRun (old new : Observed Told) (name : List ℕ) (l : Loaded) : Type 0 where
