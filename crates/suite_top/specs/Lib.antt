@@ -38,3 +38,5 @@ pub mod Steps
 pub mod Starting
 pub mod Refusing
 pub mod Running
+pub mod LiveTurns
+pub mod LiveMachine

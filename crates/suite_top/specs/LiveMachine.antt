@@ -1,0 +1,30 @@
+-- For private functions only: a live run of the machine, by the lines of its manifest.
+use Rattle.std.specs.Prelude.{◌≡◌, ℕ, List, Option, Result, Ok, Err}
+use Rattle.host_io.specs.Host.{Told}
+use Rattle.file_commands.specs.declared.answer.Answer.{Answer}
+use Rattle.file_commands.specs.Answer.{ending_in, ending_at}
+use Rattle.file_commands.specs.Observed.{ObservedSink}
+use Rattle.suite_top.specs.declared.live.LiveStop.{LiveStop}
+use Rattle.suite_top.specs.declared.live.LiveStop.TheVariants as live
+use Rattle.suite_top.specs.declared.started.Started.{Started}
+use Rattle.suite_top.specs.Telling.{Telling}
+use Rattle.suite_top.specs.Running.{turns_of, TellsHalting, TellsGoingOn}
+use Rattle.suite_top.specs.HeldItems.{RunHolds}
+use Rattle.suite_top.specs.LiveTurns.{Takes, StopsAt}
+
+-- it tells what it would without `--live`, and `out` has taken what it wrote to the console
+pub record EndsCourse (telling : Telling) (old new : Started) (out out_after : ObservedSink) (answer : Answer) : Type 0 where
+  pub course : new.course ≡ old.course
+  pub halt : TellsHalting telling old.course old.machine new.machine (Ok answer)
+  pub go_on : TellsGoingOn telling old.course old.machine new.machine (Ok answer)
+  pub takes : Takes (turns_of old.course) old.machine out out_after
+
+abbrev pub RunsCourse : Telling → (old new : Started) → (out out_after : ObservedSink) → Result Answer LiveStop → Type 0
+RunsCourse telling old new out out_after (Ok answer) = EndsCourse telling old new out out_after answer
+RunsCourse telling old new out out_after (Err stop) = StopsAt (turns_of old.course) old.machine out out_after stop
+
+-- the items are held that it keeps
+abbrev pub LeavesHeld : Telling → (name : List ℕ) → Option Told → Result Answer LiveStop → Type 0
+LeavesHeld telling name told (Ok answer) = RunHolds telling name told (ending_in answer).status
+LeavesHeld telling name told (Err (live.Ended ended)) = RunHolds telling name told (ending_at ended).status
+LeavesHeld telling name told (Err (live.Out status)) = RunHolds telling name told status
