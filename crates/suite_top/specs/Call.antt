@@ -1,10 +1,13 @@
 -- A call of `suite`: what is observed of it, and what it may do.
-use Rattle.std.specs.Prelude.{◌≡◌, ℕ, List, Option, Some, None}
+use Rattle.std.specs.Prelude.{◌≡◌, ℕ, Bool, true, false, List, Option, Some, None}
 use Rattle.host_io.specs.Host.{Told}
 use Rattle.file_commands.specs.declared.status.Status.{Status}
 use Rattle.file_commands.specs.Ending.{Ending}
 use Rattle.file_commands.specs.Outcome.{Outcome, Inputs}
+use Rattle.file_commands.specs.Arguments.{RunOptions, Invocation, run, command_of}
 use Rattle.suite_top.specs.Result.{result_of}
+use Rattle.suite_top.specs.Telling.{Report}
+use Rattle.suite_top.specs.Live.{LiveRun, MeetsLive}
 use Rattle.file_commands.specs.Observed.{Observed, ObservedSink}
 use Rattle.file_commands.specs.HostCourse.{Performs, inputs_in}
 use Rattle.file_commands.specs.Delivery.{Delivers}
@@ -29,10 +32,34 @@ abbrev pub MeetsOutcome : Call → Type 0
 MeetsOutcome c =
     (ending : Ending) × Performs c.host c.host_after (outcome_of c) ending × Delivers ending c.out c.out_after c.report c.report_after c.status
 
+-- the live run that it is, where it is one
+abbrev pub live_run : Call → (name : List ℕ) → RunOptions → LiveRun
+live_run c name options = record {
+  name = name;
+  telling = Report options;
+  inputs = c.inputs;
+  host = c.host;
+  host_after = c.host_after;
+  out = c.out;
+  out_after = c.out_after;
+}
+
+abbrev pub MeetsRun : (live : Bool) → (name : List ℕ) → RunOptions → Call → Type 0
+MeetsRun true name options c = MeetsLive (live_run c name options) c.report c.report_after c.status
+MeetsRun false name options c = MeetsOutcome c
+
+-- only a run goes live
+abbrev pub MeetsCommand : Option Invocation → Call → Type 0
+MeetsCommand (Some (run name options)) c = MeetsRun options.live name options c
+MeetsCommand other c = MeetsOutcome c
+
+abbrev pub Meets : Call → Type 0
+Meets c = MeetsCommand (command_of c.arguments) c
+
 -- the loads of a host that tells its files give these files, and those of another host give some files
 abbrev pub MeetsOver : Option Told → (Inputs → Call) → Type 0
-MeetsOver (Some t) call = MeetsOutcome (call (inputs_in t.files))
-MeetsOver None call = (inputs : Inputs) × MeetsOutcome (call inputs)
+MeetsOver (Some t) call = Meets (call (inputs_in t.files))
+MeetsOver None call = (inputs : Inputs) × Meets (call inputs)
 
 -- the clause of `suite`: the call does what `result_of` says of its arguments
 abbrev pub MeetsResult : List (List ℕ) → (host host_after : Observed Told) (out out_after report report_after : ObservedSink) → Status → Type 0

@@ -11,7 +11,7 @@
 --
 -- Placements  ArePlacements, which `suite` asks for: a chooser for each placement
 -- Points      ArePoints, which `suite` asks for: a watch point for each kind of hit
--- Call        MeetsResult, the clause of `suite`: a course of the outcome, and a delivery of its ending
+-- Call        MeetsResult, the clause of `suite`: a course of the outcome and a delivery of its ending, or those of a live run
 -- Opened      Opens: when a run reaches its machine, and the world that it opens
 -- HeldItems   KeepsHeld, a clause of `suite`: the numbers of the items that a run keeps are words, and their lists bytes
 -- Live        a live run: what `out` has taken, and how it ends
