@@ -25,6 +25,7 @@ pub mod Causes
 pub mod Shown
 pub mod Reports
 pub mod Hits
+pub mod LongerHits
 pub mod Booted
 pub mod RunEndings
 pub mod Demos
