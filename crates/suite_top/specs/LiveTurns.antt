@@ -1,5 +1,5 @@
 -- For private functions only: the turns of a live run, and what `out` takes of them.
-use Rattle.std.specs.Prelude.{◌≡◌, ℕ, ◌+◌, ◌^◌, ◌<◌, false, List, [], ◌∷◌, ◌++◌, take, sum_by, Option, Some, None, Result, Ok, Err}
+use Rattle.std.specs.Prelude.{◌≡◌, ℕ, ◌+◌, ◌^◌, ◌<◌, false, List, [], ◌∷◌, ◌++◌, length, take, sum_by, Option, Some, None, Result, Ok, Err}
 use Rattle.host_io.specs.Host.{Told as Outside}
 use Rattle.page_runs.specs.declared.place.Kind.{Kind}
 use Rattle.quantum_sched.specs.declared.Quantum.{Quantum}
@@ -78,10 +78,10 @@ pub record TakesShort (quanta : List Quantum) (n : ℕ) (stop : SinkStop) (old :
   pub adds : console_at old (take (n + 1) quanta) ≡ console_at old (take n quanta) ++ piece
   pub stops : CutShort stop between out_after piece
 
--- behind so many quanta
+-- behind so many quanta of them
 abbrev pub StopsAt : List Quantum → State → (out out_after : ObservedSink) → LiveStop → Type 0
-StopsAt quanta old out out_after (live.Ended ended) = (ending_at ended ≡ memory_ending) × ((n : ℕ) × Takes (take n quanta) old out out_after)
-StopsAt quanta old out out_after (live.Out status) = (stop : SinkStop) × (status ≡ status_at stop) × ((n : ℕ) × TakesShort quanta n stop old out out_after)
+StopsAt quanta old out out_after (live.Ended ended) = (ending_at ended ≡ memory_ending) × ((n : ℕ) × (n < length quanta) × Takes (take n quanta) old out out_after)
+StopsAt quanta old out out_after (live.Out status) = (stop : SinkStop) × (status ≡ status_at stop) × ((n : ℕ) × (n < length quanta) × TakesShort quanta n stop old out out_after)
 
 pub record GoesLive (watched : Watched) (quanta : List Quantum) (old : State) (before : Found) (new : State) (after : Found) (out out_after : ObservedSink) (end : Told) : Type 0 where
   pub goes : Goes watched quanta old before new after end
