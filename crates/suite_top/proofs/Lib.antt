@@ -28,6 +28,7 @@ pub mod Reports
 pub mod Hits
 pub mod LongerHits
 pub mod LiveTurns
+pub mod LiveTakes
 pub mod Booted
 pub mod RunEndings
 pub mod Demos

@@ -119,12 +119,12 @@ module _ (watched : Watched) (more : List Quantum) where
 
   module _ (front : List Quantum) (old mid : State) (before found : Found) where
     -- the walk of both, where the run goes on
-    whole_walk : Runs front old mid (Ok told.OutOfQuanta) → turns (front ++ more) (world old) ≡ walked (turns front (world old)).traces (turns more (world mid))
+    pub whole_walk : Runs front old mid (Ok told.OutOfQuanta) → turns (front ++ more) (world old) ≡ walked (turns front (world old)).traces (turns more (world mid))
     whole_walk x =
         let v = turns front (world old) in
         runs_go_on front more (world old) ∙ on_from more v x.1 v.end refl ∙ ap (λ w. walked v.traces (turns more w)) (sym x.0)
 
-    whole_walk_in : RunsIn front old mid (Ok told.OutOfQuanta) → turns_in (front ++ more) (one_memory old) ≡ turns_in more (one_memory mid)
+    pub whole_walk_in : RunsIn front old mid (Ok told.OutOfQuanta) → turns_in (front ++ more) (one_memory old) ≡ turns_in more (one_memory mid)
     whole_walk_in x =
         let v = turns_in front (one_memory old) in
         runs_go_on_in front more (one_memory old) ∙ on_from_in more v x.1 v.end refl ∙ ap (turns_in more) x.0
