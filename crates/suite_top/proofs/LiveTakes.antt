@@ -1,26 +1,41 @@
 -- What `out` takes of turns behind turns.
-use Rattle.std.proofs.Common.{◌≡◌, ◌≢◌, ℕ, ◌+◌, ◌≤◌, ◌<◌, false, List, [], ◌∷◌, ◌++◌, length, take, Ok, refl, sym, ap, subst, ◌∙◌, append_assoc, append-nil, arith}
+use Rattle.std.proofs.Common.{◌≡◌, ◌≢◌, ℕ, ◌+◌, ◌≤◌, ◌<◌, false, List, [], ◌∷◌, ◌++◌, length, take, drop, Option, Some, None, Ok, refl, sym, ap, subst, ◌∙◌, append_assoc, append-nil, arith}
+use Rattle.std.specs.Prelude.{option_map}
 use Rattle.std.proofs.lemmas.List.{take-append-le, length-append}
-use Rattle.std.proofs.Math.Seq.{take-append-add}
+use Rattle.std.proofs.Math.Seq.{take-append-add, drop-append}
 use Rattle.host_io.proofs.Sending.{takes-append}
 use Rattle.quantum_sched.specs.declared.Quantum.{Quantum}
 use Rattle.region_watch.specs.declared.mode.Mode.{Mode}
 use Rattle.region_watch.specs.declared.mode.Mode.TheVariants.{Halt, GoOn}
 use Rattle.machine_world.specs.World.{World}
-use Rattle.machine_world.specs.Turns.{Walk}
-use Rattle.memory_world.specs.Physical.{Physical, WalkIn, has_stray}
+use Rattle.machine_world.specs.Turns.{Walk, turns}
+use Rattle.end_laws.specs.Console.{moments, all_printed}
+use Rattle.end_laws.proofs.ConsoleRuns.{runs_print}
+use Rattle.memory_world.specs.Physical.{Physical, WalkIn, turns_in, has_stray}
+use Rattle.memory_world.proofs.Growth.{runs_add}
 use Rattle.watch_points.specs.Points.{Found}
 use Rattle.watch_points.specs.Watchers.{Watched}
 use Rattle.kept_parts.specs.InMemory.{physical_of}
 use Rattle.flat_machine.specs.declared.run.End.{End as Told}
 use Rattle.flat_machine.specs.declared.run.End.TheVariants as told
 use Rattle.flat_machine.specs.State.{State, world, one_memory}
+use Rattle.flat_machine.specs.Keeps.{CountsRun}
+use Rattle.flat_machine.specs.RunsIn.{IsHalting}
+use Rattle.flat_machine.specs.ByMode.{HaltWatched, GoOnWatched}
+use Rattle.file_commands.specs.declared.status.Status.{Status}
+use Rattle.file_commands.specs.declared.ended.Ended.{Ended}
+use Rattle.file_commands.specs.Answer.{ending_at}
+use Rattle.file_commands.specs.Ending.{memory_ending}
 use Rattle.file_commands.specs.Observed.{ObservedSink}
-use Rattle.file_commands.specs.Delivery.{SinkStop, TookAll}
+use Rattle.file_commands.specs.Delivery.{SinkStop, status_at, TookAll, CutShort}
 use Rattle.suite_top.specs.declared.live.LiveStop.{LiveStop}
 use Rattle.suite_top.specs.declared.live.LiveStop.TheVariants as live
-use Rattle.suite_top.specs.LiveTurns.{Goes, console_by, console_at, Takes, TakesShort, StopsAt}
+use Rattle.suite_top.specs.LiveTurns.{Goes, events_of, console_by, console_at, Takes, TakesShort, StopsAt}
 use Rattle.suite_top.proofs.LiveTurns.{whole_walk, whole_walk_in}
+
+memory_world : (s : State) → (one_memory s).world ≡ world s
+unfolding physical_of
+memory_world s = refl
 
 took_then : (old mid new : ObservedSink) (xs ys : List ℕ) → TookAll old mid xs → TookAll mid new ys → TookAll old new (xs ++ ys)
 took_then old mid new xs ys x y = (takes-append old.told mid.told new.told xs ys x.0 y.0, y.1.0 ∙ x.1.0, y.1.1 ∙ x.1.1)
@@ -104,3 +119,76 @@ module _ (front more : List Quantum) (old : State) (out out_after : ObservedSink
     adds = console_end watched (front ++ more) old before mid found quiet end y ∙ sym (console_end watched front old before mid found quiet end x) ∙ a.adds;
     took = a.took;
   }
+
+-- ---- one run of the machine
+
+pub machine_goes : (watched : Watched) (quanta : List Quantum) (old : State) (before : Found) (new : State) (after : Found) (end : Told) → CountsRun (events_of quanta) old new
+    → (IsHalting old → HaltWatched watched quanta old before new after (Ok end)) → (old.mode ≡ GoOn → GoOnWatched watched quanta old before new after (Ok end))
+    → Goes watched quanta old before new after end
+machine_goes watched quanta old before new after end keeps halts goes_on = record {
+  keeps = keeps;
+  halts = λ halting. let x = halts halting in record { runs = x.runs.turns; quiet = x.runs.quiet; hits = x.hits };
+  goes_on = λ is. let x = goes_on is in record { runs = x.runs.memory; hits = x.hits };
+}
+
+-- the console only grows
+module _ (watched : Watched) (quanta : List Quantum) (old : State) (before : Found) (new : State) (after : Found) (end : Told) (quiet : old.mode ≡ Halt → has_stray (world old).notes ≡ false)
+    (x : Goes watched quanta old before new after end) where
+  pub grows : (more : List ℕ) × ((world new).rest.console ≡ (world old).rest.console ++ more)
+  grows = by old.mode refl
+    where
+      at : (mode : Mode) → old.mode ≡ mode → console_by mode old quanta ≡ (world new).rest.console
+      at mode is = ap (λ m. console_by m old quanta) (sym is) ∙ console_end watched quanta old before new after quiet end x
+
+      by : (mode : Mode) → old.mode ≡ mode → (more : List ℕ) × ((world new).rest.console ≡ (world old).rest.console ++ more)
+      by Halt is = let prints = runs_print quanta (world old) in (all_printed (moments quanta (world old)), sym (at Halt is) ∙ prints.console)
+      by GoOn is = let adds = runs_add quanta (one_memory old) in (adds.1.0, sym (at GoOn is) ∙ adds.1.1 ∙ ap (λ (w : World). w.rest.console ++ adds.1.0) (memory_world old))
+
+  pub is_longer : length (world old).rest.console ≤ length (world new).rest.console
+  is_longer = let (more, is) = grows in omega (arith, ap length is, length-append (world old).rest.console more)
+
+  -- what stands behind the old console is what these turns added
+  pub added : (world new).rest.console ≡ (world old).rest.console ++ drop (length (world old).rest.console) (world new).rest.console
+  added =
+      let (more, is) = grows in
+      is ∙ ap (λ xs. (world old).rest.console ++ xs) (sym (ap (drop (length (world old).rest.console)) is ∙ drop-append (world old).rest.console more))
+
+  pub takes_piece : (out out_after : ObservedSink) → TookAll out out_after (drop (length (world old).rest.console) (world new).rest.console) → Takes quanta old out out_after
+  takes_piece out out_after took = record { taken = _; adds = console_end watched quanta old before new after quiet end x ∙ added; took = took }
+
+nothing_taken : (s : ObservedSink) → TookAll s s []
+nothing_taken s = (takes_nothing s.told, refl, refl)
+  where
+    takes_nothing : (o : Option (List ℕ)) → o ≡ option_map (λ taken. taken ++ []) o
+    takes_nothing None = refl
+    takes_nothing (Some taken) = ap Some (sym (append-nil taken))
+
+-- without a turn nothing is taken
+module _ (old : State) (quiet : old.mode ≡ Halt → has_stray (world old).notes ≡ false) where
+  pub console_none : console_at old [] ≡ (world old).rest.console
+  unfolding turns turns_in
+  console_none = by old.mode
+    where
+      by : (mode : Mode) → console_by mode old [] ≡ (world old).rest.console
+      by Halt = refl
+      by GoOn = ap (λ (w : World). w.rest.console) (memory_world old)
+
+  pub takes_none : (out : ObservedSink) → Takes [] old out out
+  takes_none out = record { taken = []; adds = console_none ∙ sym (append-nil (world old).rest.console); took = nothing_taken out }
+
+  -- out of memory before the first of some quanta
+  pub stops_now : (q : Quantum) (qs : List Quantum) (out : ObservedSink) (ended : Ended) → ending_at ended ≡ memory_ending → StopsAt (q ∷ qs) old out out (live.Ended ended)
+  stops_now q qs out ended is = (is, (0, (omega arith, takes_none out)))
+
+  -- `out` stops in the first piece
+  pub stops_short : (watched : Watched) (q : Quantum) (before : Found) (new : State) (after : Found) (end : Told) → Goes watched (q ∷ []) old before new after end
+      → (out out_after : ObservedSink) (stop : SinkStop) (status : Status) → CutShort stop out out_after (drop (length (world old).rest.console) (world new).rest.console) → status ≡ status_at stop
+      → StopsAt (q ∷ []) old out out_after (live.Out status)
+  stops_short watched q before new after end x out out_after stop status short is =
+      (stop, (is, (0, (omega arith, record {
+        between = out;
+        behind = takes_none out;
+        piece = _;
+        adds = console_end watched (q ∷ []) old before new after quiet end x ∙ added watched (q ∷ []) old before new after end quiet x ∙ ap (λ xs. xs ++ drop (length (world old).rest.console) (world new).rest.console) (sym console_none);
+        stops = short;
+      }))))

@@ -92,7 +92,13 @@ where
         (observed_sink O.told O.faults O.shortages out.old) (observed_sink O.told O.faults O.shortages out.new) result }
 {
     let before = machine.console().len();
-    let end = machine.run_repeated_watched(&[quantum], 1, eyes.chooser, eyes.watcher, hits)?;
+    let end = machine.run_watched(
+        &[quantum],
+        eyes.chooser,
+        eyes.watcher.point,
+        eyes.watcher.spans,
+        hits,
+    )?;
     let (_, piece) = machine.console().split_at(before);
     match write_text(alloc, out, piece) {
         Ok(()) => Ok(end),
@@ -118,7 +124,13 @@ where
     ensures { RunsLive (watched_by eyes.now.watcher.now) quanta.now machine.old hits.old machine.new hits.new
         (observed_sink O.told O.faults O.shortages out.old) (observed_sink O.told O.faults O.shortages out.new) result }
 {
-    let mut end = machine.run_repeated_watched(&[], 1, eyes.chooser, eyes.watcher, hits)?;
+    let mut end = machine.run_watched(
+        &[],
+        eyes.chooser,
+        eyes.watcher.point,
+        eyes.watcher.spans,
+        hits,
+    )?;
     for quantum in quanta {
         if end != End::OutOfQuanta {
             return Ok(end);
