@@ -14,7 +14,7 @@ usage: flatc COMMAND WORDS
   check ELF                                   say whether ELF can be converted, and store
                                               nothing
   list FLT                                    write the listing of the flat file FLT
-  run MANIFEST [--log] [--go-on] [--place K] [--items N FILE] [--watch touch|within]
+  run MANIFEST [--log] [--go-on] [--place K] [--items N FILE] [--watch touch|within] [--live]
                                               run the programs of MANIFEST by turns in one
                                               memory; --log tells their system calls too,
                                               --go-on goes on behind the first access that
@@ -25,7 +25,7 @@ usage: flatc COMMAND WORDS
                                               for replay, and not with --go-on; --watch
                                               tells each load and store that touches a range
                                               of the manifest's watch lines, or lies within
-                                              one
+                                              one; --live writes the console turn by turn
   trace MANIFEST [--pid P] [--count] [--place K]
                                               run the programs of MANIFEST as run does, and
                                               show each system call, as strace would; with

@@ -2,7 +2,7 @@
 use Rattle.std.proofs.Common.{◌≡◌, ◌≢◌, ℕ, ◌+◌, ◌≤◌, ◌<◌, false, List, [], ◌∷◌, ◌++◌, length, take, drop, Option, Some, None, Ok, refl, sym, ap, subst, ◌∙◌, append_assoc, append-nil, arith}
 use Rattle.std.specs.Prelude.{option_map}
 use Rattle.std.proofs.lemmas.List.{take-append-le, length-append}
-use Rattle.std.proofs.Math.Seq.{take-append-add, drop-append}
+use Rattle.std.proofs.Math.Seq.{take-append-add, drop-append_seam}
 use Rattle.host_io.proofs.Sending.{takes-append}
 use Rattle.quantum_sched.specs.declared.Quantum.{Quantum}
 use Rattle.region_watch.specs.declared.mode.Mode.{Mode}
@@ -151,7 +151,7 @@ module _ (watched : Watched) (quanta : List Quantum) (old : State) (before : Fou
   pub added : (world new).rest.console ≡ (world old).rest.console ++ drop (length (world old).rest.console) (world new).rest.console
   added =
       let (more, is) = grows in
-      is ∙ ap (λ xs. (world old).rest.console ++ xs) (sym (ap (drop (length (world old).rest.console)) is ∙ drop-append (world old).rest.console more))
+      is ∙ ap (λ xs. (world old).rest.console ++ xs) (sym (ap (drop (length (world old).rest.console)) is ∙ drop-append_seam (world old).rest.console more))
 
   pub takes_piece : (out out_after : ObservedSink) → TookAll out out_after (drop (length (world old).rest.console) (world new).rest.console) → Takes quanta old out out_after
   takes_piece out out_after took = record { taken = _; adds = console_end watched quanta old before new after quiet end x ∙ added; took = took }
