@@ -61,6 +61,7 @@ impl From<Ended> for LiveStop {
 }
 
 /// What a live run goes by beside its quanta.
+#[derive(Drop)]
 struct Eyes<'a, F, G> {
     chooser: &'a Chooser<F>,
     watcher: &'a Watcher<'a, G>,
