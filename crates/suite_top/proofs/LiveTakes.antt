@@ -38,7 +38,7 @@ unfolding physical_of
 memory_world s = refl
 
 took_then : (old mid new : ObservedSink) (xs ys : List ℕ) → TookAll old mid xs → TookAll mid new ys → TookAll old new (xs ++ ys)
-took_then old mid new xs ys x y = (takes-append old.told mid.told new.told xs ys x.0 y.0, y.1.0 ∙ x.1.0, y.1.1 ∙ x.1.1)
+took_then old mid new xs ys x y = (takes-append old.told mid.told new.told xs ys x.0 y.0, y.1 ∙ x.1, y.2 ∙ x.2)
 
 module _ (watched : Watched) (front : List Quantum) (old : State) (before : Found) (mid : State) (found : Found) (quiet : old.mode ≡ Halt → has_stray (world old).notes ≡ false) where
   -- behind these turns the machine has this console
@@ -85,31 +85,33 @@ module _ (watched : Watched) (front : List Quantum) (old : State) (before : Foun
     pub stops_then : (stop : LiveStop) → StopsAt more mid between out_after stop → StopsAt (front ++ more) old out out_after stop
     stops_then (live.Ended ended) b =
         let n = b.1.0 in
-        (b.0, (length front + n, (omega (arith, b.1.1.0, length-append front more), subst (λ qs. Takes qs old out out_after) (sym (take-append-add front more n)) (takes_then x (take n more) out between out_after a b.1.1.1))))
+        let less : n < length more = b.1.1 in
+        (b.0, (length front + n, omega (arith, less, length-append front more), subst (λ qs. Takes qs old out out_after) (sym (take-append-add front more n)) (takes_then x (take n more) out between out_after a b.1.2)))
     stops_then (live.Out status) b =
         let n = b.2.0 in
-        (b.0, (b.1, (length front + n, (omega (arith, b.2.1.0, length-append front more), short_then n b.0 b.2.1.1))))
+        let less : n < length more = b.2.1 in
+        (b.0, b.1, (length front + n, omega (arith, less, length-append front more), short_then n b.0 b.2.2))
 
 -- a stop among the first of more quanta
 module _ (front more : List Quantum) (old : State) (out out_after : ObservedSink) where
   pub stops_longer : (stop : LiveStop) → StopsAt front old out out_after stop → StopsAt (front ++ more) old out out_after stop
   stops_longer (live.Ended ended) b =
       let n = b.1.0 in
-      let less : n < length front = b.1.1.0 in
-      (b.0, (n, (omega (arith, less, length-append front more), subst (λ qs. Takes qs old out out_after) (sym (take-append-le n front more (omega (arith, less)))) b.1.1.1)))
+      let less : n < length front = b.1.1 in
+      (b.0, (n, omega (arith, less, length-append front more), subst (λ qs. Takes qs old out out_after) (sym (take-append-le n front more (omega (arith, less)))) b.1.2))
   stops_longer (live.Out status) b =
       let n = b.2.0 in
-      let less : n < length front = b.2.1.0 in
-      let s = b.2.1.1 in
+      let less : n < length front = b.2.1 in
+      let s = b.2.2 in
       let same : take n (front ++ more) ≡ take n front = take-append-le n front more (omega (arith, less)) in
       let next : take (n + 1) (front ++ more) ≡ take (n + 1) front = take-append-le (n + 1) front more (omega (arith, less)) in
-      (b.0, (b.1, (n, (omega (arith, less, length-append front more), record {
+      (b.0, b.1, (n, omega (arith, less, length-append front more), record {
         between = s.between;
         behind = subst (λ qs. Takes qs old out s.between) (sym same) s.behind;
         piece = s.piece;
         adds = ap (console_at old) next ∙ s.adds ∙ ap (λ qs. console_at old qs ++ s.piece) (sym same);
         stops = s.stops;
-      }))))
+      }))
 
   -- and where the run has ended nothing more is taken
   pub takes_ended : (watched : Watched) (before found : Found) (mid : State) (end : Told) → end ≢ told.OutOfQuanta → (old.mode ≡ Halt → has_stray (world old).notes ≡ false)
@@ -178,17 +180,17 @@ module _ (old : State) (quiet : old.mode ≡ Halt → has_stray (world old).note
 
   -- out of memory before the first of some quanta
   pub stops_now : (q : Quantum) (qs : List Quantum) (out : ObservedSink) (ended : Ended) → ending_at ended ≡ memory_ending → StopsAt (q ∷ qs) old out out (live.Ended ended)
-  stops_now q qs out ended is = (is, (0, (omega arith, takes_none out)))
+  stops_now q qs out ended is = (is, (0, omega arith, takes_none out))
 
   -- `out` stops in the first piece
   pub stops_short : (watched : Watched) (q : Quantum) (before : Found) (new : State) (after : Found) (end : Told) → Goes watched (q ∷ []) old before new after end
       → (out out_after : ObservedSink) (stop : SinkStop) (status : Status) → CutShort stop out out_after (drop (length (world old).rest.console) (world new).rest.console) → status ≡ status_at stop
       → StopsAt (q ∷ []) old out out_after (live.Out status)
   stops_short watched q before new after end x out out_after stop status short is =
-      (stop, (is, (0, (omega arith, record {
+      (stop, is, (0, omega arith, record {
         between = out;
         behind = takes_none out;
         piece = _;
         adds = console_end watched (q ∷ []) old before new after quiet end x ∙ added watched (q ∷ []) old before new after end quiet x ∙ ap (λ xs. xs ++ drop (length (world old).rest.console) (world new).rest.console) (sym console_none);
         stops = short;
-      }))))
+      }))

@@ -40,7 +40,7 @@ turn_ends (suc n) pid w = outcome_ends (turn n pid) w pid (event w pid) (turn_en
 
 module _ (kind : PointKind) (spans : List Span) (more : List Quantum) where
   -- those of the quanta that are left, where the run goes on
-  abbrev left : World → Option End → List Hit
+  abbrev pub left : World → Option End → List Hit
   left w (Some out_of_quanta) = hits kind spans more w
   left w end = []
 
@@ -96,7 +96,7 @@ turn_ends_in zero pid p = tt
 turn_ends_in (suc n) pid p = event_ends_in (turn_in n pid) p (event_in p pid) (turn_ends_in n pid)
 
 module _ (kind : PointKind) (spans : List Span) (more : List Quantum) where
-  abbrev left_in : Physical → Option End → List Hit
+  abbrev pub left_in : Physical → Option End → List Hit
   left_in p (Some out_of_quanta) = hits_in_memory kind spans more p
   left_in p end = []
 
