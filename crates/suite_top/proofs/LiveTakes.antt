@@ -1,9 +1,11 @@
 -- What `out` takes of turns behind turns.
-use Rattle.std.proofs.Common.{◌≡◌, ◌≢◌, ℕ, ◌+◌, ◌≤◌, ◌<◌, false, List, [], ◌∷◌, ◌++◌, length, take, drop, Option, Some, None, Ok, refl, sym, ap, subst, ◌∙◌, append_assoc, append-nil, arith}
+use Rattle.std.proofs.Common.{◌≡◌, ◌≢◌, ℕ, ◌+◌, ◌^◌, ◌≤◌, ◌<◌, true, false, List, [], ◌∷◌, ◌++◌, length, take, drop, Option, Some, None, Result, Ok, Err, refl, sym, ap, subst, ◌∙◌, append_assoc, append-nil, arith}
 use Rattle.std.specs.Prelude.{option_map}
 use Rattle.std.proofs.lemmas.List.{take-append-le, length-append}
+use Rattle.std.proofs.lemmas.List.Sums.{sum_by-append}
 use Rattle.std.proofs.Math.Seq.{take-append-add, drop-append_seam}
 use Rattle.host_io.proofs.Sending.{takes-append}
+use Rattle.page_runs.specs.declared.place.Kind.{Kind}
 use Rattle.quantum_sched.specs.declared.Quantum.{Quantum}
 use Rattle.region_watch.specs.declared.mode.Mode.{Mode}
 use Rattle.region_watch.specs.declared.mode.Mode.TheVariants.{Halt, GoOn}
@@ -30,8 +32,8 @@ use Rattle.file_commands.specs.Observed.{ObservedSink}
 use Rattle.file_commands.specs.Delivery.{SinkStop, status_at, TookAll, CutShort}
 use Rattle.suite_top.specs.declared.live.LiveStop.{LiveStop}
 use Rattle.suite_top.specs.declared.live.LiveStop.TheVariants as live
-use Rattle.suite_top.specs.LiveTurns.{Goes, events_of, console_by, console_at, Takes, TakesShort, StopsAt}
-use Rattle.suite_top.proofs.LiveTurns.{whole_walk, whole_walk_in}
+use Rattle.suite_top.specs.LiveTurns.{MayRun, Goes, GoesLive, RunsLive, events_of, has_ended, console_by, console_at, Takes, TakesShort, StopsAt}
+use Rattle.suite_top.proofs.LiveTurns.{whole_walk, whole_walk_in, is_on, is_over, goes_then, goes_ended}
 
 memory_world : (s : State) → (one_memory s).world ≡ world s
 unfolding physical_of
@@ -194,3 +196,37 @@ module _ (old : State) (quiet : old.mode ≡ Halt → has_stray (world old).note
         adds = console_end watched (q ∷ []) old before new after quiet end x ∙ added watched (q ∷ []) old before new after end quiet x ∙ ap (λ xs. xs ++ drop (length (world old).rest.console) (world new).rest.console) (sym console_none);
         stops = short;
       }))
+
+-- ---- quanta behind quanta
+
+module _ (watched : Watched) (front more : List Quantum) (old : State) (before : Found) (mid : State) (found : Found) (out between : ObservedSink)
+    (quiet : old.mode ≡ Halt → has_stray (world old).notes ≡ false) where
+  -- a machine that goes on may run
+  pub may_go_on : (asked : Kind) (end : Told) → has_ended end ≡ false → asked ≡ old.kind → old.events + events_of (front ++ more) < 2 ^ 64 → GoesLive watched front old before mid found out between end
+      → MayRun asked (events_of more) mid
+  may_go_on asked end on kind events x = record {
+    kind = kind ∙ sym x.goes.keeps.kind;
+    events = omega (arith, events, x.goes.keeps.events, sum_by-append (λ (q : Quantum). q.count) front more);
+    quiet = λ halt.
+        let was = sym x.goes.keeps.mode ∙ halt in
+        let goes = subst (λ e. Goes watched front old before mid found e) (is_on end on) x.goes in
+        ((goes.halts (record { halts = was; quiet = quiet was })).quiet refl).quiet;
+  }
+
+  pub live_then : (end : Told) → has_ended end ≡ false → GoesLive watched front old before mid found out between end → (new : State) (after : Found) (out_after : ObservedSink) (result : Result Told LiveStop)
+      → RunsLive watched more mid found new after between out_after result → RunsLive watched (front ++ more) old before new after out out_after result
+  live_then end on x new after out_after (Ok last) y =
+      let goes = subst (λ e. Goes watched front old before mid found e) (is_on end on) x.goes in
+      record {
+        goes = goes_then watched more front old mid before found new after last goes y.goes;
+        takes = takes_then watched front old before mid found quiet goes more out between out_after x.takes y.takes;
+      }
+  live_then end on x new after out_after (Err stop) y =
+      let goes = subst (λ e. Goes watched front old before mid found e) (is_on end on) x.goes in
+      stops_then watched front old before mid found quiet goes more out between out_after x.takes stop y
+
+  -- or has ended
+  pub live_ended : (end : Told) → has_ended end ≡ true → GoesLive watched front old before mid found out between end → GoesLive watched (front ++ more) old before mid found out between end
+  live_ended end over x =
+      let goes = goes_ended watched more front old mid before found end (is_over end over) x.goes in
+      record { goes = goes; takes = takes_ended front more old out between watched before found mid end (is_over end over) quiet x.goes goes x.takes }

@@ -1,5 +1,5 @@
 -- Turns behind turns: what a machine and `out` come to that go on, and where they stop.
-use Rattle.std.proofs.Common.{◌≡◌, ◌≢◌, ℕ, ◌+◌, ◌≤◌, ◌<◌, false, List, [], ◌∷◌, ◌++◌, length, take, Option, Some, None, Ok, refl, sym, ap, subst, ◌∙◌, append_assoc, append-nil, arith}
+use Rattle.std.proofs.Common.{◌≡◌, ◌≢◌, ℕ, ◌+◌, ◌≤◌, ◌<◌, true, false, List, [], ◌∷◌, ◌++◌, length, take, Option, Some, None, Ok, refl, sym, ap, subst, ◌∙◌, append_assoc, append-nil, arith}
 use Rattle.std.specs.Prelude.{sum_by}
 use Rattle.std.proofs.lemmas.List.{take-append-le, length-append}
 use Rattle.std.proofs.lemmas.List.Sums.{sum_by-append}
@@ -31,7 +31,7 @@ use Rattle.file_commands.specs.Observed.{ObservedSink}
 use Rattle.file_commands.specs.Delivery.{TookAll}
 use Rattle.suite_top.specs.declared.live.LiveStop.{LiveStop}
 use Rattle.suite_top.specs.declared.live.LiveStop.TheVariants as live
-use Rattle.suite_top.specs.LiveTurns.{Halts, GoesOn, Goes, events_of, console_by, console_at, Takes, TakesShort, StopsAt}
+use Rattle.suite_top.specs.LiveTurns.{Goes, has_ended}
 use Rattle.suite_top.proofs.LongerHits.{left, left_in, longer_hits, longer_hits_in}
 
 -- ---- the end of a walk
@@ -75,6 +75,20 @@ stays_so_in more v end ends other (Some stuck) is = rw is refl
 stays_so_in more v end ends other (Some (stray_at pid access)) is = rw is refl
 stays_so_in more v end ends other (Some log_full) is = rw is refl
 stays_so_in more v end ends other None is = rw is refl
+
+pub is_over : (end : Told) → has_ended end ≡ true → end ≢ told.OutOfQuanta
+is_over told.OutOfQuanta is = absurd cc
+is_over told.AllEnded is = λ h. cc
+is_over told.Stuck is = λ h. cc
+is_over (told.Stray access) is = λ h. cc
+is_over told.LogFull is = λ h. cc
+
+pub is_on : (end : Told) → has_ended end ≡ false → end ≡ told.OutOfQuanta
+is_on told.OutOfQuanta is = refl
+is_on told.AllEnded is = absurd cc
+is_on told.Stuck is = absurd cc
+is_on (told.Stray access) is = absurd cc
+is_on told.LogFull is = absurd cc
 
 module _ (watched : Watched) (more : List Quantum) where
   abbrev H : List Quantum → World → List Hit

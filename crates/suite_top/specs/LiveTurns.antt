@@ -1,5 +1,5 @@
 -- For private functions only: the turns of a live run, and what `out` takes of them.
-use Rattle.std.specs.Prelude.{◌≡◌, ℕ, ◌+◌, ◌^◌, ◌<◌, false, List, [], ◌∷◌, ◌++◌, length, take, sum_by, Option, Some, None, Result, Ok, Err}
+use Rattle.std.specs.Prelude.{◌≡◌, ℕ, ◌+◌, ◌^◌, ◌<◌, Bool, true, false, List, [], ◌∷◌, ◌++◌, length, take, sum_by, Option, Some, None, Result, Ok, Err}
 use Rattle.host_io.specs.Host.{Told as Outside}
 use Rattle.page_runs.specs.declared.place.Kind.{Kind}
 use Rattle.quantum_sched.specs.declared.Quantum.{Quantum}
@@ -11,6 +11,7 @@ use Rattle.memory_world.specs.Physical.{has_stray, turns_in}
 use Rattle.watch_points.specs.Points.{Found, with_hits}
 use Rattle.watch_points.specs.Watchers.{Watched}
 use Rattle.flat_machine.specs.declared.run.End.{End as Told}
+use Rattle.flat_machine.specs.declared.run.End.TheVariants as told
 use Rattle.flat_machine.specs.State.{State, world, one_memory}
 use Rattle.flat_machine.specs.Keeps.{CountsRun}
 use Rattle.flat_machine.specs.Runs.{Runs}
@@ -34,6 +35,11 @@ pub record MayRun (asked : Kind) (most : ℕ) (s : State) : Type 0 where
   pub kind : asked ≡ s.kind
   pub events : s.events + most < 2 ^ 64
   pub quiet : s.mode ≡ Halt → has_stray (world s).notes ≡ false
+
+-- a run has ended otherwise than for want of quanta
+abbrev pub has_ended : Told → Bool
+has_ended told.OutOfQuanta = false
+has_ended end = true
 
 abbrev pub events_of : List Quantum → ℕ
 events_of quanta = sum_by (λ q. q.count) quanta

@@ -9,7 +9,7 @@ ghost use Rattle.suite_top.specs.Points.{ArePoints};
 ghost use Rattle.suite_top.specs.Running.{IsReady, turns_of};
 ghost use Rattle.suite_top.specs.HeldItems.{RunHolds};
 ghost use Rattle.suite_top.specs.Telling.{placement_of, watch_of, telling_value};
-ghost use Rattle.suite_top.specs.LiveTurns.{MayRun, events_of, RunsLive, StopsAt, OverInputs, RanLive};
+ghost use Rattle.suite_top.specs.LiveTurns.{MayRun, events_of, has_ended, RunsLive, StopsAt, OverInputs, RanLive};
 ghost use Rattle.suite_top.specs.LiveMachine.{RunsCourse, LeavesHeld};
 
 use crate::kept::keep_items;
@@ -74,6 +74,16 @@ pub(crate) struct LiveRun<'a> {
     pub telling: Telling<'a>,
 }
 
+/// Whether the run has ended otherwise than for want of quanta.
+fn has_ended(end: End) -> bool
+    ensures { result ≡ has_ended end }
+{
+    match end {
+        End::OutOfQuanta => false,
+        End::AllEnded | End::Stray(_) | End::Stuck | End::LogFull => true,
+    }
+}
+
 /// Gives one quantum its turn, and writes what that added to the console.
 fn live_turn<F, G, O: Sink>(
     alloc: Global,
@@ -133,7 +143,7 @@ where
         hits,
     )?;
     for quantum in quanta {
-        if end != End::OutOfQuanta {
+        if has_ended(end) {
             return Ok(end);
         }
         end = live_turn(alloc, machine, *quantum, eyes, hits, out)?;
@@ -161,7 +171,7 @@ where
 {
     let mut end = live_round(alloc, &mut started.machine, &[], eyes, hits, out)?;
     for _time in 0..started.course.repeat {
-        if end != End::OutOfQuanta {
+        if has_ended(end) {
             return Ok(end);
         }
         end = live_round(alloc, &mut started.machine, &started.course.quanta, eyes, hits, out)?;

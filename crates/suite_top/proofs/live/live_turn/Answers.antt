@@ -1,6 +1,7 @@
 -- The turn is one run of the machine, and its piece is what stands behind the console of before.
-use Rattle.std.proofs.Common.{Err, [], refl, ◌∙◌, ap}
+use Rattle.std.proofs.Common.{[], refl}
 use Rattle.std.proofs.lemmas.Result.{err_from_is_err_and}
+use Rattle.file_commands.specs.declared.ended.Ended.TheVariants.{Memory}
 use Rattle.file_commands.specs.Observed.{observed_sink}
 use Rattle.watch_points.specs.Watchers.{watched_by}
 use Rattle.suite_top.proofs.LiveTakes.{machine_goes, is_longer, takes_piece, stops_now, stops_short}
@@ -10,7 +11,7 @@ pub returns-in_err-end : goal.returns-in_err-end
 returns-in_err-end g c =
     let sink = observed_sink g.O.Sink.told g.O.Sink.faults g.O.Sink.shortages in
     let p = err_from_is_err_and c.from_residual.result c.from_residual.ensures.1 in
-    rw (p.1, p.2) (stops_now c.args.machine.now c.requires.fits.quiet c.args.quantum [] (sink c.args.out.now) _ refl)
+    rw (p.1, p.2) (stops_now c.args.machine.now c.requires.fits.quiet c.args.quantum [] (sink c.args.out.now) Memory refl)
 
 pub split_at-requires : goal.split_at-requires
 split_at-requires g c =
