@@ -1,8 +1,9 @@
 -- What `out` takes of turns behind turns.
-use Rattle.std.proofs.Common.{◌≡◌, ◌≢◌, ℕ, ◌+◌, ◌^◌, ◌≤◌, ◌<◌, true, false, List, [], ◌∷◌, ◌++◌, length, take, drop, Option, Some, None, Result, Ok, Err, refl, sym, ap, subst, ◌∙◌, append_assoc, append-nil, arith}
+use Rattle.std.proofs.Common.{◌≡◌, ◌≢◌, ℕ, ◌+◌, ◌^◌, ◌≤◌, ◌<◌, true, false, List, [], ◌∷◌, ◌++◌, length, take, drop, get_or, Option, Some, None, Result, Ok, Err, refl, sym, ap, subst, ◌∙◌, append_assoc, append-nil, arith}
 use Rattle.std.specs.Prelude.{option_map}
-use Rattle.std.proofs.lemmas.List.{take-append-le, length-append}
-use Rattle.std.proofs.lemmas.List.Sums.{sum_by-append}
+use Rattle.std.proofs.lemmas.List.{take-append-le, take-append-drop, take_more, length-append}
+use Rattle.std.specs.declared.alloc.AllocError.{AllocError}
+use Rattle.std.proofs.lemmas.List.Sums.{sum_by-append, sum_by-cons}
 use Rattle.std.proofs.Math.Seq.{take-append-add, drop-append_seam}
 use Rattle.host_io.proofs.Sending.{takes-append}
 use Rattle.page_runs.specs.declared.place.Kind.{Kind}
@@ -230,3 +231,59 @@ module _ (watched : Watched) (front more : List Quantum) (old : State) (before :
   live_ended end over x =
       let goes = goes_ended watched more front old mid before found end (is_over end over) x.goes in
       record { goes = goes; takes = takes_ended front more old out between watched before found mid end (is_over end over) quiet x.goes goes x.takes }
+
+-- ---- the next of some quanta
+
+abbrev no_quantum : Quantum
+no_quantum = record { pick = 0; count = 0 }
+
+module _ (watched : Watched) (quanta : List Quantum) (i : ℕ) (less : i < length quanta) (old : State) (before : Found) (mid : State) (found : Found) (out between : ObservedSink)
+    (quiet : old.mode ≡ Halt → has_stray (world old).notes ≡ false) (end : Told) (on : has_ended end ≡ false) (x : GoesLive watched (take i quanta) old before mid found out between end) where
+  abbrev next : Quantum
+  next = get_or quanta i no_quantum
+
+  taken_next : take (i + 1) quanta ≡ take i quanta ++ next ∷ []
+  taken_next = take_more quanta i no_quantum less
+
+  pub next_may_run : (asked : Kind) → asked ≡ old.kind → old.events + events_of quanta < 2 ^ 64 → MayRun asked next.count mid
+  next_may_run asked kind events =
+      let all : events_of quanta ≡ events_of (take (i + 1) quanta ++ drop (i + 1) quanta) = ap events_of (sym (take-append-drop (i + 1) quanta)) in
+      let parts = sum_by-append (λ (q : Quantum). q.count) (take (i + 1) quanta) (drop (i + 1) quanta) in
+      let front : events_of (take (i + 1) quanta) ≡ events_of (take i quanta ++ next ∷ []) = ap events_of taken_next in
+      let room : old.events + events_of (take i quanta ++ next ∷ []) < 2 ^ 64 = omega (arith, events, all, parts, front) in
+      let may = may_go_on watched (take i quanta) (next ∷ []) old before mid found out between quiet asked end on kind room x in
+      record { kind = may.kind; events = omega (arith, may.events, sum_by-cons (λ (q : Quantum). q.count) next []); quiet = may.quiet }
+
+  pub next_then : (new : State) (after : Found) (out_after : ObservedSink) (last : Told) → GoesLive watched (next ∷ []) mid found new after between out_after last
+      → GoesLive watched (take (i + 1) quanta) old before new after out out_after last
+  next_then new after out_after last y =
+      subst (λ qs. GoesLive watched qs old before new after out out_after last) (sym taken_next)
+      (live_then watched (take i quanta) (next ∷ []) old before mid found out between quiet end on x new after out_after (Ok last) y)
+
+  pub next_stops : (out_after : ObservedSink) (stop : LiveStop) → StopsAt (next ∷ []) mid between out_after stop → StopsAt quanta old out out_after stop
+  next_stops out_after stop y =
+      let stops : StopsAt (take i quanta ++ next ∷ []) old out out_after stop = live_then watched (take i quanta) (next ∷ []) old before mid found out between quiet end on x mid found out_after (Err stop) y in
+      subst (λ qs. StopsAt qs old out out_after stop) (take-append-drop (i + 1) quanta)
+      (stops_longer (take (i + 1) quanta) (drop (i + 1) quanta) old out out_after stop (subst (λ qs. StopsAt qs old out out_after stop) (sym taken_next) stops))
+
+-- the run has ended before the next of them
+pub ended_early : (watched : Watched) (quanta : List Quantum) (i : ℕ) (old : State) (before : Found) (mid : State) (found : Found) (out between : ObservedSink)
+    → (old.mode ≡ Halt → has_stray (world old).notes ≡ false) → (end : Told) → has_ended end ≡ true → GoesLive watched (take i quanta) old before mid found out between end
+    → GoesLive watched quanta old before mid found out between end
+ended_early watched quanta i old before mid found out between quiet end over x =
+    subst (λ qs. GoesLive watched qs old before mid found out between end) (take-append-drop i quanta)
+    (live_ended watched (take i quanta) (drop i quanta) old before mid found out between quiet end over x)
+
+-- ---- no quantum runs out of memory
+
+not_empty : (front : List Quantum) (q : Quantum) (back : List Quantum) → [] ≡ front ++ q ∷ back → ⊥
+not_empty [] q back is = absurd cc
+not_empty (x ∷ front) q back is = absurd cc
+
+pub nothing_stops : (watched : Watched) (old : State) (before : Found) (new : State) (after : Found) (error : AllocError) → (old.mode ≡ Halt → has_stray (world old).notes ≡ false)
+    → (IsHalting old → HaltWatched watched [] old before new after (Err error)) → (old.mode ≡ GoOn → GoOnWatched watched [] old before new after (Err error)) → ⊥
+nothing_stops watched old before new after error quiet halts goes_on = by old.mode refl
+  where
+    by : (mode : Mode) → old.mode ≡ mode → ⊥
+    by Halt is = let s = (halts (record { halts = is; quiet = quiet is })).runs.turns in not_empty s.front s.quantum s.back s.are
+    by GoOn is = let s = (goes_on is).runs.memory in not_empty s.front s.quantum s.back s.are
