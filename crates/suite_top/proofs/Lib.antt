@@ -5,7 +5,7 @@
 -- Causes: the counts that rose, by the status of a call.
 -- Shown: what a machine shows and tells, by what becomes of its run at the first stray access.
 -- Reports, Hits: the parts of the report of a run.
--- LongerHits, LiveTurns, LiveTakes: turns behind turns, and what `out` takes of them.
+-- LongerHits, LiveTurns, LiveTakes, LiveTimes: turns behind turns, and what `out` takes of them.
 -- Booted, RunEndings: what a boot of the machine gives, and how a run ends.
 -- Demos: the manifest of a demo.
 -- Each: what a loop has seen of each element.
@@ -29,6 +29,7 @@ pub mod Hits
 pub mod LongerHits
 pub mod LiveTurns
 pub mod LiveTakes
+pub mod LiveTimes
 pub mod Booted
 pub mod RunEndings
 pub mod Demos

@@ -18,7 +18,7 @@ loop-quantum-init g c =
     }
 
 pub returns-in_err-end : goal.returns-in_err-end
-returns-in_err-end g c = absurd (nothing_stops (watched_by c.args.eyes.now.watcher.now) c.args.machine.now c.args.hits.now c.run_watched.new.self c.run_watched.new.hits c.in_err-end.field-0 c.requires.fits.quiet c.in_err-end.ensures.halts c.in_err-end.ensures.goes_on)
+returns-in_err-end g c = absurd (nothing_stops (watched_by c.args.eyes.now.watcher.now) c.args.machine.now c.args.hits.now c.run_watched.new.self c.run_watched.new.hits c.in_err-end.field-0.0 c.requires.fits.quiet c.in_err-end.ensures.halts c.in_err-end.ensures.goes_on)
 
 pub live_turn-requires-clause-fits : goal.live_turn-requires-clause-fits
 live_turn-requires-clause-fits g c =
