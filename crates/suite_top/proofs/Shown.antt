@@ -12,7 +12,8 @@ use Rattle.region_watch.specs.declared.mode.Mode.{Mode}
 use Rattle.region_watch.specs.declared.mode.Mode.TheVariants.{Halt, GoOn}
 use Rattle.flat_machine.specs.declared.run.End.{End as Told}
 use Rattle.flat_machine.specs.State.{State, world, one_memory}
-use Rattle.flat_machine.specs.RunsIn.{IsHalting}
+use Rattle.flat_machine.specs.Runs.{Runs}
+use Rattle.flat_machine.specs.RunsIn.{IsHalting, RunsIn}
 use Rattle.flat_machine.specs.ByMode.{HaltRuns, GoOnRuns}
 use Rattle.flat_machine.specs.OwnBytes.{own_bytes, memory_bytes}
 use Rattle.file_commands.specs.declared.answer.Answer.{Answer}
@@ -63,20 +64,20 @@ module _ (telling : Telling) (quanta : List Quantum) (watched : List ℕ) (dumps
   abbrev Stops : Ending → World → Type 0
   Stops ending w = IfOk result (Stopped ending w new)
 
-  halts : old.mode ≡ Halt → has_stray (world old).notes ≡ false → (IsHalting old → HaltRuns quanta old new (Ok end)) → Stops (walked_ending telling watched dumps (turns quanta (world old))) (turns quanta (world old)).world
-  halts is quiet runs =
-      let (world_is, ends) = (runs (record { halts = is; quiet = quiet })).turns in
+  halts : old.mode ≡ Halt → Runs quanta old new (Ok end) → Stops (walked_ending telling watched dumps (turns quanta (world old))) (turns quanta (world old)).world
+  halts is runs =
+      let (world_is, ends) = runs in
       let walk = turns quanta (world old) in
       let tells : HasEndingBehind (world new) (walked_ending telling watched dumps walk) result =
       subst (λ (w : World). HasEndingBehind (world new) (told_ending telling (watched ++ own_dumps w dumps) w walk.end) result) world_is
       (subst (λ (dumped : List ℕ). HasEndingBehind (world new) (told_ending telling (watched ++ dumped) (world new) walk.end) result) (shows_own new dumps (stays ∙ is)) (told walk.end ends)) in
       with_machine result (walked_ending telling watched dumps walk) walk.world new tells world_is
 
-  goes_on : old.mode ≡ GoOn → (old.mode ≡ GoOn → GoOnRuns quanta old new (Ok end))
+  goes_on : old.mode ≡ GoOn → RunsIn quanta old new (Ok end)
       → Stops (walked_on_ending telling watched dumps (turns_in quanta (one_memory old))) (turns_in quanta (one_memory old)).now.world
   unfolding physical_of
   goes_on is runs =
-      let (memory_is, ends) = (runs is).memory in
+      let (memory_is, ends) = runs in
       let walk = turns_in quanta (one_memory old) in
       let tells : HasEndingBehind (world new) (walked_on_ending telling watched dumps walk) result =
       subst (λ (p : Physical). HasEndingBehind (world new) (told_ending telling (watched ++ memory_dumps p dumps) p.world walk.end) result) (sym memory_is)
@@ -84,15 +85,23 @@ module _ (telling : Telling) (quanta : List Quantum) (watched : List ℕ) (dumps
       with_machine result (walked_on_ending telling watched dumps walk) walk.now.world new tells (ap (λ (p : Physical). p.world) (sym memory_is))
 
   -- that text is the one of the definition
+  pub halts_by : (watches : List WatchLine) → world_hits telling quanta watches (world old) ≡ watched
+      → old.mode ≡ Halt → Runs quanta old new (Ok end) → Stops (world_ending telling quanta watches dumps (world old)) (turns quanta (world old)).world
+  halts_by watches are is runs =
+      subst (λ (text : List ℕ). Stops (walked_ending telling text dumps (turns quanta (world old))) (turns quanta (world old)).world) (sym are) (halts is runs)
+
   pub halts_with : (watches : List WatchLine) → world_hits telling quanta watches (world old) ≡ watched
       → old.mode ≡ Halt → has_stray (world old).notes ≡ false → (IsHalting old → HaltRuns quanta old new (Ok end)) → Stops (world_ending telling quanta watches dumps (world old)) (turns quanta (world old)).world
-  halts_with watches are is quiet runs =
-      subst (λ (text : List ℕ). Stops (walked_ending telling text dumps (turns quanta (world old))) (turns quanta (world old)).world) (sym are) (halts is quiet runs)
+  halts_with watches are is quiet runs = halts_by watches are is (runs (record { halts = is; quiet = quiet })).turns
+
+  pub goes_on_by : (watches : List WatchLine) → memory_hits telling quanta watches (one_memory old) ≡ watched
+      → old.mode ≡ GoOn → RunsIn quanta old new (Ok end) → Stops (memory_run_ending telling quanta watches dumps (one_memory old)) (turns_in quanta (one_memory old)).now.world
+  goes_on_by watches are is runs =
+      subst (λ (text : List ℕ). Stops (walked_on_ending telling text dumps (turns_in quanta (one_memory old))) (turns_in quanta (one_memory old)).now.world) (sym are) (goes_on is runs)
 
   pub goes_on_with : (watches : List WatchLine) → memory_hits telling quanta watches (one_memory old) ≡ watched
       → old.mode ≡ GoOn → (old.mode ≡ GoOn → GoOnRuns quanta old new (Ok end)) → Stops (memory_run_ending telling quanta watches dumps (one_memory old)) (turns_in quanta (one_memory old)).now.world
-  goes_on_with watches are is runs =
-      subst (λ (text : List ℕ). Stops (walked_on_ending telling text dumps (turns_in quanta (one_memory old))) (turns_in quanta (one_memory old)).now.world) (sym are) (goes_on is runs)
+  goes_on_with watches are is runs = goes_on_by watches are is (runs is).memory
 
 -- ---- behind it
 
