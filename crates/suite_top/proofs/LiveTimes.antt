@@ -1,6 +1,7 @@
 -- The times that a live run goes through its quanta.
-use Rattle.std.proofs.Common.{◌≡◌, ℕ, zero, suc, ◌+◌, ◌*◌, ◌-◌, ◌^◌, ◌≤◌, ◌<◌, true, false, List, [], ◌++◌, Ok, Err, refl, sym, ap, subst, ◌∙◌, arith}
+use Rattle.std.proofs.Common.{◌≡◌, ℕ, zero, suc, ◌+◌, ◌*◌, ◌-◌, ◌^◌, ◌≤◌, ◌<◌, true, false, List, [], ◌++◌, length, Ok, Err, refl, sym, ap, subst, ◌∙◌, arith}
 use Rattle.std.proofs.lemmas.List.Sums.{sum_by-append}
+use Rattle.std.proofs.Math.Seq.{take-length}
 use Rattle.page_runs.specs.declared.place.Kind.{Kind}
 use Rattle.quantum_sched.specs.declared.Quantum.{Quantum}
 use Rattle.region_watch.specs.declared.mode.Mode.TheVariants.{Halt}
@@ -11,14 +12,15 @@ use Rattle.flat_machine.specs.declared.run.End.{End as Told}
 use Rattle.flat_machine.specs.State.{State, world}
 use Rattle.flat_machine.specs.Runs.{repeated}
 use Rattle.flat_machine.proofs.Rounds.{repeated_more, time_fits, repeated_parts, split}
+use Rattle.file_commands.specs.declared.ended.Ended.TheVariants.{Memory}
 use Rattle.file_commands.specs.Observed.{ObservedSink}
 use Rattle.suite_top.specs.declared.live.LiveStop.{LiveStop}
 use Rattle.suite_top.specs.declared.live.LiveStop.TheVariants as live
-use Rattle.suite_top.specs.LiveTurns.{MayRun, GoesLive, StopsAt, events_of, has_ended}
-use Rattle.suite_top.proofs.LiveTakes.{may_go_on, live_then, live_ended, stops_longer}
+use Rattle.suite_top.specs.LiveTurns.{MayRun, GoesLive, Takes, StopsAt, StopsBehind, events_of, has_ended}
+use Rattle.suite_top.proofs.LiveTakes.{takes_none, may_go_on, live_then, live_ended, stops_longer}
 
 events_repeated : (n : ℕ) (qs : List Quantum) → events_of (repeated n qs) ≡ n * events_of qs
-events_repeated zero qs = refl
+events_repeated zero qs = omega arith
 events_repeated (suc n) qs = omega (arith, sum_by-append (λ (q : Quantum). q.count) qs (repeated n qs), events_repeated n qs)
 
 pub no_time : (asked : Kind) (most : ℕ) (s : State) → MayRun asked most s → MayRun asked (events_of []) s
@@ -57,3 +59,16 @@ times_end watched quanta i count most old before mid found out between quiet end
     let sum : count ≡ i + (count - i) = omega arith in
     subst (λ qs. GoesLive watched qs old before mid found out between end) (sym (ap (λ n. repeated n quanta) sum ∙ repeated_parts i (count - i) quanta))
     (live_ended watched (repeated i quanta) (repeated (count - i) quanta) old before mid found out between quiet end over x)
+
+-- ---- where a run stops
+
+pub stops_behind : (quanta : List Quantum) (old : State) (out out_after : ObservedSink) (stop : LiveStop) → StopsAt quanta old out out_after stop → StopsBehind quanta old out out_after stop
+stops_behind quanta old out out_after (live.Ended ended) y = (y.0, (y.1.0, y.1.2))
+stops_behind quanta old out out_after (live.Out status) y = (y.0, y.1, (y.2.0, y.2.2))
+
+-- out of memory before the first turn, and behind the last one
+pub memory_before : (quanta : List Quantum) (old : State) → (old.mode ≡ Halt → has_stray (world old).notes ≡ false) → (out : ObservedSink) → StopsBehind quanta old out out (live.Ended Memory)
+memory_before quanta old quiet out = (refl, (0, takes_none old quiet out))
+
+pub memory_behind : (quanta : List Quantum) (old : State) (out out_after : ObservedSink) → Takes quanta old out out_after → StopsBehind quanta old out out_after (live.Ended Memory)
+memory_behind quanta old out out_after takes = (refl, (length quanta, subst (λ qs. Takes qs old out out_after) (sym (take-length quanta)) takes))

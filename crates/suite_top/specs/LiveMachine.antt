@@ -15,7 +15,7 @@ use Rattle.suite_top.specs.Telling.{Telling, Report, telling_value}
 use Rattle.suite_top.specs.Live.{Reports}
 use Rattle.suite_top.specs.Running.{turns_of, TellsHalting, TellsGoingOn}
 use Rattle.suite_top.specs.HeldItems.{RunHolds}
-use Rattle.suite_top.specs.LiveTurns.{Takes, StopsAt}
+use Rattle.suite_top.specs.LiveTurns.{Takes, StopsBehind}
 
 -- it tells what it would without `--live`, and `out` has taken what it wrote to the console
 pub record EndsCourse (telling : Telling) (old new : Started) (out out_after : ObservedSink) (answer : Answer) : Type 0 where
@@ -26,7 +26,7 @@ pub record EndsCourse (telling : Telling) (old new : Started) (out out_after : O
 
 abbrev pub RunsCourse : Telling → (old new : Started) → (out out_after : ObservedSink) → Result Answer LiveStop → Type 0
 RunsCourse telling old new out out_after (Ok answer) = EndsCourse telling old new out out_after answer
-RunsCourse telling old new out out_after (Err stop) = StopsAt (turns_of old.course) old.machine out out_after stop
+RunsCourse telling old new out out_after (Err stop) = StopsBehind (turns_of old.course) old.machine out out_after stop
 
 -- the items are held that it keeps
 abbrev pub LeavesHeld : Telling → (name : List ℕ) → Option Told → Result Answer LiveStop → Type 0

@@ -89,6 +89,11 @@ abbrev pub StopsAt : List Quantum → State → (out out_after : ObservedSink) �
 StopsAt quanta old out out_after (live.Ended ended) = (ending_at ended ≡ memory_ending) × ((n : ℕ) × (n < length quanta) × Takes (take n quanta) old out out_after)
 StopsAt quanta old out out_after (live.Out status) = (stop : SinkStop) × (status ≡ status_at stop) × ((n : ℕ) × (n < length quanta) × TakesShort quanta n stop old out out_after)
 
+-- the same, or out of memory behind the last of them
+abbrev pub StopsBehind : List Quantum → State → (out out_after : ObservedSink) → LiveStop → Type 0
+StopsBehind quanta old out out_after (live.Ended ended) = (ending_at ended ≡ memory_ending) × ((n : ℕ) × Takes (take n quanta) old out out_after)
+StopsBehind quanta old out out_after (live.Out status) = (stop : SinkStop) × (status ≡ status_at stop) × ((n : ℕ) × TakesShort quanta n stop old out out_after)
+
 pub record GoesLive (watched : Watched) (quanta : List Quantum) (old : State) (before : Found) (new : State) (after : Found) (out out_after : ObservedSink) (end : Told) : Type 0 where
   pub goes : Goes watched quanta old before new after end
   pub takes : Takes quanta old out out_after

@@ -207,7 +207,8 @@ fn live_unwatched<F: Fn(&[Run], u32) -> Option<usize>, O: Sink>(
     };
     let end = live_rounds(alloc, started, &eyes, &mut hits, out)?;
     let shown = dumps_text(alloc, &started.machine, &started.course.dumps)?;
-    Ok(told(alloc, &started.machine, telling, &shown, end)?)
+    let answer = told(alloc, &started.machine, telling, &shown, end)?;
+    Ok(answer)
 }
 
 /// Runs the machine, and tells of it with the hits of a watch point.
@@ -241,7 +242,8 @@ where
     };
     let end = live_rounds(alloc, started, &eyes, &mut hits, out)?;
     let shown = shown_text(alloc, &hits, &started.machine, &started.course.dumps)?;
-    Ok(told(alloc, &started.machine, telling, &shown, end)?)
+    let answer = told(alloc, &started.machine, telling, &shown, end)?;
+    Ok(answer)
 }
 
 /// Runs the machine, and tells of it.
