@@ -107,14 +107,21 @@ module _ (front more : List Quantum) (old : State) (out out_after : ObservedSink
       let less : n < length front = b.2.1 in
       let s = b.2.2 in
       let same : take n (front ++ more) ≡ take n front = take-append-le n front more (omega (arith, less)) in
-      let next : take (n + 1) (front ++ more) ≡ take (n + 1) front = take-append-le (n + 1) front more (omega (arith, less)) in
-      (b.0, b.1, (n, omega (arith, less, length-append front more), record {
-        between = s.between;
-        behind = subst (λ qs. Takes qs old out s.between) (sym same) s.behind;
-        piece = s.piece;
-        adds = ap (console_at old) next ∙ s.adds ∙ ap (λ qs. console_at old qs ++ s.piece) (sym same);
-        stops = s.stops;
-      }))
+      let next : take (n + 1) (front ++ more) ≡ take (n + 1) front = take-append-le (n + 1) front more (omega (arith, less)) in (
+        b.0,
+        b.1,
+        (
+          n,
+          omega (arith, less, length-append front more),
+          record {
+            between = s.between;
+            behind = subst (λ qs. Takes qs old out s.between) (sym same) s.behind;
+            piece = s.piece;
+            adds = ap (console_at old) next ∙ s.adds ∙ ap (λ qs. console_at old qs ++ s.piece) (sym same);
+            stops = s.stops;
+          },
+        ),
+      )
 
   -- and where the run has ended nothing more is taken
   pub takes_ended : (watched : Watched) (before found : Found) (mid : State) (end : Told) → end ≢ told.OutOfQuanta → (old.mode ≡ Halt → has_stray (world old).notes ≡ false)
@@ -189,14 +196,21 @@ module _ (old : State) (quiet : old.mode ≡ Halt → has_stray (world old).note
   pub stops_short : (watched : Watched) (q : Quantum) (before : Found) (new : State) (after : Found) (end : Told) → Goes watched (q ∷ []) old before new after end
       → (out out_after : ObservedSink) (stop : SinkStop) (status : Status) → CutShort stop out out_after (drop (length (world old).rest.console) (world new).rest.console) → status ≡ status_at stop
       → StopsAt (q ∷ []) old out out_after (live.Out status)
-  stops_short watched q before new after end x out out_after stop status short is =
-      (stop, is, (0, omega arith, record {
+  stops_short watched q before new after end x out out_after stop status short is = (
+    stop,
+    is,
+    (
+      0,
+      omega arith,
+      record {
         between = out;
         behind = takes_none out;
         piece = _;
         adds = console_end watched (q ∷ []) old before new after quiet end x ∙ added watched (q ∷ []) old before new after end quiet x ∙ ap (λ xs. xs ++ drop (length (world old).rest.console) (world new).rest.console) (sym console_none);
         stops = short;
-      }))
+      },
+    ),
+  )
 
 -- ---- quanta behind quanta
 

@@ -1,35 +1,24 @@
 -- Turns behind turns: what a machine and `out` come to that go on, and where they stop.
-use Rattle.std.proofs.Common.{◌≡◌, ◌≢◌, ℕ, ◌+◌, ◌≤◌, ◌<◌, true, false, List, [], ◌∷◌, ◌++◌, length, take, Option, Some, None, Ok, refl, sym, ap, subst, ◌∙◌, append_assoc, append-nil, arith}
-use Rattle.std.specs.Prelude.{sum_by}
-use Rattle.std.proofs.lemmas.List.{take-append-le, length-append}
+use Rattle.std.proofs.Common.{◌≡◌, ◌≢◌, ◌+◌, true, false, List, [], ◌++◌, Option, Some, None, Ok, refl, sym, ap, subst, ◌∙◌, append-nil, arith}
 use Rattle.std.proofs.lemmas.List.Sums.{sum_by-append}
-use Rattle.std.proofs.Math.Seq.{take-append-add}
-use Rattle.host_io.proofs.Sending.{takes-append}
 use Rattle.quantum_sched.specs.declared.Quantum.{Quantum}
-use Rattle.region_watch.specs.declared.mode.Mode.{Mode}
-use Rattle.region_watch.specs.declared.mode.Mode.TheVariants.{Halt, GoOn}
 use Rattle.machine_world.specs.World.{World}
 use Rattle.machine_world.specs.Turns.{End, all_ended, stuck, out_of_quanta, stray_at, log_full, Walk, walked, turns}
 use Rattle.machine_world.specs.Longer.{with_more}
 use Rattle.machine_world.proofs.LongerRuns.{runs_go_on}
-use Rattle.memory_world.specs.Physical.{Physical, WalkIn, turns_in, has_stray}
+use Rattle.memory_world.specs.Physical.{Physical, WalkIn, turns_in}
 use Rattle.memory_world.specs.Longer.{with_more_in}
 use Rattle.memory_world.proofs.LongerRunsIn.{runs_go_on_in}
 use Rattle.watch_points.specs.declared.hits.Hit.{Hit}
 use Rattle.watch_points.specs.Points.{Found, with_hits}
 use Rattle.watch_points.specs.Watchers.{Watched}
 use Rattle.watch_points.proofs.HitLists.{with_hits-append}
-use Rattle.kept_parts.specs.InMemory.{physical_of}
 use Rattle.flat_machine.specs.declared.run.End.{End as Told}
 use Rattle.flat_machine.specs.declared.run.End.TheVariants as told
 use Rattle.flat_machine.specs.State.{State, world, one_memory}
-use Rattle.flat_machine.specs.Keeps.{CountsRun}
 use Rattle.flat_machine.specs.Runs.{Ends, Runs}
-use Rattle.flat_machine.specs.RunsIn.{IsHalting, RunsIn}
+use Rattle.flat_machine.specs.RunsIn.{RunsIn}
 use Rattle.flat_machine.specs.Hits.{hits, hits_in_memory}
-use Rattle.file_commands.specs.Observed.{ObservedSink}
-use Rattle.file_commands.specs.Delivery.{TookAll}
-use Rattle.suite_top.specs.declared.live.LiveStop.{LiveStop}
 use Rattle.suite_top.specs.declared.live.LiveStop.TheVariants as live
 use Rattle.suite_top.specs.LiveTurns.{Goes, has_ended}
 use Rattle.suite_top.proofs.LongerHits.{left, left_in, longer_hits, longer_hits_in}

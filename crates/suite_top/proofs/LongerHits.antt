@@ -1,12 +1,12 @@
 -- The hits of a run by a longer list of quanta: behind those of the shorter one stand those of what goes on from there.
-use Rattle.std.proofs.Common.{◌≡◌, ℕ, zero, suc, ◌==◌, Bool, true, false, List, [], ◌∷◌, ◌++◌, length, Option, Some, None, refl, sym, ap, ◌∙◌, subst, append_assoc, append-nil, if◌then◌else◌}
+use Rattle.std.proofs.Common.{◌≡◌, ℕ, zero, suc, ◌==◌, Bool, true, false, List, [], ◌∷◌, ◌++◌, length, Option, Some, None, refl, sym, ap, ◌∙◌, append_assoc, append-nil, if◌then◌else◌}
 use Rattle.quantum_sched.specs.declared.Quantum.{Quantum}
 use Rattle.quantum_sched.specs.Picked.{picked}
 use Rattle.machine_world.specs.World.{World}
 use Rattle.machine_world.specs.Families.{ready_pids}
 use Rattle.machine_world.specs.Event.{Outcome, went, strays, full, idle, event}
 use Rattle.machine_world.specs.Turns.{End, all_ended, stuck, out_of_quanta, stray_at, log_full, Walk, remains_at, turn, turned, turns, going_on, quantum_turn, none_runs, last_end}
-use Rattle.memory_world.specs.Physical.{Physical, After, after, no_room, nobody, event_in, WalkIn, remains_at_in, turned_in, turn_in, turns_in, going_on_in, quantum_turn_in}
+use Rattle.memory_world.specs.Physical.{Physical, After, after, no_room, nobody, event_in, WalkIn, turned_in, turn_in, turns_in, going_on_in, quantum_turn_in}
 use Rattle.watch_points.specs.declared.hits.Hit.{Hit}
 use Rattle.watch_points.specs.declared.point.PointKind.{PointKind}
 use Rattle.watch_points.specs.declared.span.Span.{Span}

@@ -1,11 +1,10 @@
 -- For private functions only: the turns of a live run, and what `out` takes of them.
-use Rattle.std.specs.Prelude.{◌≡◌, ℕ, ◌+◌, ◌^◌, ◌<◌, Bool, true, false, List, [], ◌∷◌, ◌++◌, length, take, sum_by, Option, Some, None, Result, Ok, Err}
+use Rattle.std.specs.Prelude.{◌≡◌, ℕ, ◌+◌, ◌^◌, ◌<◌, Bool, true, false, List, ◌++◌, length, take, sum_by, Option, Some, None, Result, Ok, Err}
 use Rattle.host_io.specs.Host.{Told as Outside}
 use Rattle.page_runs.specs.declared.place.Kind.{Kind}
 use Rattle.quantum_sched.specs.declared.Quantum.{Quantum}
 use Rattle.region_watch.specs.declared.mode.Mode.{Mode}
 use Rattle.region_watch.specs.declared.mode.Mode.TheVariants.{Halt, GoOn}
-use Rattle.machine_world.specs.World.{World}
 use Rattle.machine_world.specs.Turns.{turns}
 use Rattle.memory_world.specs.Physical.{has_stray, turns_in}
 use Rattle.watch_points.specs.Points.{Found, with_hits}
@@ -17,13 +16,12 @@ use Rattle.flat_machine.specs.Keeps.{CountsRun}
 use Rattle.flat_machine.specs.Runs.{Runs}
 use Rattle.flat_machine.specs.RunsIn.{IsHalting, RunsIn, ends_astray}
 use Rattle.flat_machine.specs.Hits.{hits, hits_in_memory}
-use Rattle.file_commands.specs.declared.status.Status.{Status}
 use Rattle.file_commands.specs.declared.answer.Answer.{Answer}
 use Rattle.file_commands.specs.declared.ended.Ended.{Ended}
 use Rattle.file_commands.specs.Answer.{ending_in, ending_at}
 use Rattle.file_commands.specs.Ending.{Ending, memory_ending}
 use Rattle.file_commands.specs.Outcome.{Inputs}
-use Rattle.file_commands.specs.Observed.{Observed, ObservedSink}
+use Rattle.file_commands.specs.Observed.{ObservedSink}
 use Rattle.file_commands.specs.HostCourse.{inputs_in}
 use Rattle.file_commands.specs.Delivery.{SinkStop, status_at, TookAll, CutShort}
 use Rattle.suite_top.specs.declared.live.LiveStop.{LiveStop}

@@ -174,7 +174,14 @@ where
         if has_ended(end) {
             return Ok(end);
         }
-        end = live_round(alloc, &mut started.machine, &started.course.quanta, eyes, hits, out)?;
+        end = live_round(
+            alloc,
+            &mut started.machine,
+            &started.course.quanta,
+            eyes,
+            hits,
+            out,
+        )?;
     }
     Ok(end)
 }
@@ -293,13 +300,13 @@ where
     requires points { ArePoints P.pre P.post Q.pre Q.post points.now }
     requires kind { kind_of chooser.now ≡ placement_of (telling_value asked.telling) }
     ensures ran { OverInputs (H.told host.old) (λ inputs. RanLive (record {
-        name = asked.manifest.now;
-        telling = telling_value asked.telling;
-        inputs = inputs;
-        host = observed H.told H.faults host.old;
-        host_after = observed H.told H.faults host.new;
-        out = observed_sink O.told O.faults O.shortages out.old;
-        out_after = observed_sink O.told O.faults O.shortages out.new;
+      name = asked.manifest.now;
+      telling = telling_value asked.telling;
+      inputs = inputs;
+      host = observed H.told H.faults host.old;
+      host_after = observed H.told H.faults host.new;
+      out = observed_sink O.told O.faults O.shortages out.old;
+      out_after = observed_sink O.told O.faults O.shortages out.new;
     }) result) }
     ensures held { LeavesHeld (telling_value asked.telling) asked.manifest.now (H.told host.old) result }
 {

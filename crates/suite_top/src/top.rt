@@ -140,13 +140,13 @@ where
     requires place { ArePlacements A.pre A.post B.pre B.post C.pre C.post place.now }
     requires points { ArePoints P.pre P.post Q.pre Q.post points.now }
     ensures ran { OverInputs (H.told host.old) (λ inputs. RanLive (record {
-        name = asked.manifest.now;
-        telling = telling_value asked.telling;
-        inputs = inputs;
-        host = observed H.told H.faults host.old;
-        host_after = observed H.told H.faults host.new;
-        out = observed_sink O.told O.faults O.shortages out.old;
-        out_after = observed_sink O.told O.faults O.shortages out.new;
+      name = asked.manifest.now;
+      telling = telling_value asked.telling;
+      inputs = inputs;
+      host = observed H.told H.faults host.old;
+      host_after = observed H.told H.faults host.new;
+      out = observed_sink O.told O.faults O.shortages out.old;
+      out_after = observed_sink O.told O.faults O.shortages out.new;
     }) result) }
     ensures held { LeavesHeld (telling_value asked.telling) asked.manifest.now (H.told host.old) result }
 {
@@ -168,11 +168,7 @@ fn report_text<R: Sink>(alloc: Global, status: Status, text: &[u8], report: &mut
 }
 
 /// What is left to write behind a live run. Where `out` took no more that is nothing.
-fn report_live<R: Sink>(
-    alloc: Global,
-    ran: Result<Answer, LiveStop>,
-    report: &mut R,
-) -> Status
+fn report_live<R: Sink>(alloc: Global, ran: Result<Answer, LiveStop>, report: &mut R) -> Status
     ensures { ReportsLive ran (observed_sink R.told R.faults R.shortages report.old) (observed_sink R.told R.faults R.shortages report.new) result }
 {
     let told = match ran {
@@ -182,12 +178,7 @@ fn report_live<R: Sink>(
     };
     match told {
         Ok(answer) => report_text(alloc, answer.status, &answer.report, report),
-        Err(_) => report_text(
-            alloc,
-            Status::Memory,
-            texts::MEMORY_LINE.as_bytes(),
-            report,
-        ),
+        Err(_) => report_text(alloc, Status::Memory, texts::MEMORY_LINE.as_bytes(), report),
     }
 }
 

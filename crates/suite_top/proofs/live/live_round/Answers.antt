@@ -1,11 +1,9 @@
 -- The quanta so far, and the next.
-use Rattle.std.proofs.Common.{[], refl, subst}
+use Rattle.std.proofs.Common.{[]}
 use Rattle.std.proofs.lemmas.List.{take_all}
 use Rattle.std.proofs.lemmas.Result.{err_from_is_err_and}
-use Rattle.std.specs.declared.alloc.AllocError.{AllocError}
 use Rattle.file_commands.specs.Observed.{observed_sink}
 use Rattle.watch_points.specs.Watchers.{watched_by}
-use Rattle.suite_top.specs.LiveTurns.{GoesLive}
 use Rattle.suite_top.proofs.LiveTakes.{machine_goes, takes_none, next_may_run, next_then, next_stops, ended_early, nothing_stops}
 use Rattle.suite_top.proofs.live.live_round.Goals as goal
 
