@@ -5,6 +5,8 @@ use Rattle.std.specs.FinMap.{get}
 use Rattle.std.proofs.lemmas.List.{ext_get_or}
 use Rattle.std.proofs.lemmas.Option.{same_Some}
 use Rattle.host_io.specs.Host.{Told}
+use Rattle.page_runs.specs.declared.place.Kind.{Kind}
+use Rattle.quantum_sched.specs.declared.Quantum.{Quantum}
 use Rattle.manifest_text.specs.Values.{Item, Manifest}
 use Rattle.manifest_text.specs.Manifest.{Fault, manifest_of}
 use Rattle.machine_world.specs.World.{World}
@@ -20,10 +22,10 @@ use Rattle.file_commands.specs.declared.status.Status.{Status}
 use Rattle.file_commands.specs.Ending.{Ending, done_ending, usage_ending, memory_ending, OrMemory}
 use Rattle.file_commands.specs.Outcome.{Request, load, store, Outcome, Inputs, failure_ending}
 use Rattle.file_commands.specs.Load.{at_once, with_load}
-use Rattle.file_commands.specs.FileLoad.{GaveFile, EndsWithout}
+use Rattle.file_commands.specs.FileLoad.{GaveFile}
 use Rattle.file_commands.specs.Items.{files_limit, with_items}
 use Rattle.file_commands.specs.ItemLoads.{GaveFiles}
-use Rattle.file_commands.specs.Manifests.{manifest_limit, fault_ending}
+use Rattle.file_commands.specs.Manifests.{manifest_limit}
 use Rattle.file_commands.specs.Observed.{Observed, ObservedSink}
 use Rattle.file_commands.specs.HostCourse.{HostCourse, complete, failed, out_of_memory, after_answer, EndsAfter, Performs, inputs_in, PerformsOver, PerformsCommand}
 use Rattle.file_commands.specs.Delivery.{sink_failed, sink_memory, whole, stopped_at_out, stopped_at_report, Delivers}
@@ -34,12 +36,14 @@ use Rattle.suite_top.specs.Running.{turns_of, TellsHalting, TellsGoingOn}
 use Rattle.suite_top.specs.Telling.{Telling, Report, mode_of, placement_of, kept_of}
 use Rattle.suite_top.specs.KeptItems.{keep_of}
 use Rattle.suite_top.specs.Run.{start_line, opening, stopped_world}
-use Rattle.suite_top.specs.Steps.{EndsFor, manifest_ending, boot_ending}
 use Rattle.suite_top.specs.Opened.{AreThere, OpensFor, IsStop}
 use Rattle.suite_top.specs.HeldItems.{RecordsHeld, StopsHeld, FilesHold, RunHolds, CommandHolds, KeepsHeld}
-use Rattle.suite_top.proofs.Opened.{items_there, within, items_within}
+use Rattle.suite_top.specs.declared.started.Started.{Started}
+use Rattle.suite_top.specs.Begun.{IsEarly, IsStarted}
+use Rattle.suite_top.proofs.Opened.{items_there, items_within}
+use Rattle.suite_top.proofs.Begun.{early_no_stop}
 
--- ---- a status that is no stop
+-- ---- a run that stops
 
 no_or_memory : (wanted ending : Ending) → (IsStop wanted.status → ⊥) → OrMemory wanted ending → IsStop ending.status → ⊥
 no_or_memory wanted ending none (inl is) stop = none (subst (λ (e : Ending). IsStop e.status) is stop)
@@ -48,10 +52,6 @@ no_or_memory wanted ending none (inr is) stop = subst (λ (e : Ending). IsStop e
 no_failure : (last : Request) → IsStop (failure_ending last).status → ⊥
 no_failure (load name) stop = stop
 no_failure (store name bytes) stop = stop
-
-no_step : {A F : Type 0} (of : F → Ending) → ((fault : F) → IsStop (of fault).status → ⊥) → (wanted : Result A F) (ending : Ending) → EndsFor of wanted ending → IsStop ending.status → ⊥
-no_step of none (Ok a) ending is stop = subst (λ (e : Ending). IsStop e.status) is stop
-no_step of none (Err fault) ending ends stop = no_or_memory (of fault) ending (none fault) ends stop
 
 -- where a command ended by a stop, its outcome did
 stops_so : (old new : Observed Told) (outcome : Outcome) (ending : Ending) → Performs old new outcome ending → IsStop ending.status → ending ≡ outcome.ending
@@ -71,46 +71,9 @@ each (Some t) P of = of t refl
 performs_at : (old new : Observed Told) (t : Told) (command : Inputs → Outcome) (ending : Ending) → old.told ≡ Some t → PerformsCommand old new command ending → Performs old new (command (inputs_in t.files)) ending
 performs_at old new t command ending told performs = subst (λ (o : Option Told). PerformsOver o old new command ending) told performs
 
--- what goes on so stops no machine
-abbrev no_stop : List ℕ → Inputs → Outcome
-no_stop bytes inputs = at_once usage_ending
-
-abbrev never_stop : List (List ℕ) → Outcome
-never_stop files = at_once usage_ending
-
--- no machine stopped where the manifest isn't there
-pub no_manifest : (telling : Telling) (name : List ℕ) (old new : Observed Told) (ending : Ending) → EndsWithout manifest_limit None old new name ending → RunHolds telling name old.told ending.status
-no_manifest telling name old new ending ends = each old.told _ at
-  where
-    never : (t : Told) → old.told ≡ Some t → IsStop ending.status → ⊥
-    never t told stop =
-        let outcome = with_load manifest_limit None name no_stop (inputs_in t.files) in
-        let is = stops_so old new outcome ending (performs_at old new t (with_load manifest_limit None name no_stop) ending told (ends no_stop)) stop in
-        let (bytes, found, fits, more) =
-        within manifest_limit None name (inputs_in t.files 0 name) (λ bytes. at_once usage_ending) (subst (λ (e : Ending). IsStop e.status) is stop) in
-        more
-
-    at : (t : Told) → old.told ≡ Some t → kept_of telling ≢ None → IsStop ending.status → (o : OpensFor (inputs_in t.files) name telling) → StopsHeld telling o.booted
-    at t told kept stop o = absurd (never t told stop)
-
--- nor where it is refused
-pub no_reading : (telling : Telling) (name : List ℕ) (told : Option Told) (wanted : Result Manifest Fault) (ending : Ending) → EndsFor manifest_ending wanted ending → RunHolds telling name told ending.status
-no_reading telling name told wanted ending ends = each told _ (λ t is kept stop o. absurd (no_step manifest_ending (λ fault more. more) wanted ending ends stop))
-
--- nor where a file of it isn't there
-pub no_files : (telling : Telling) (name : List ℕ) (old now new : Observed Told) (bytes : List ℕ) (items : List Item) (ending : Ending) → GaveFile manifest_limit old now name bytes
-    → ((rest : List (List ℕ) → Outcome) → PerformsCommand now new (with_items files_limit items rest) ending) → RunHolds telling name old.told ending.status
-no_files telling name old now new bytes items ending gave ends = each old.told _ at
-  where
-    never : (t : Told) → now.told ≡ Some t → IsStop ending.status → ⊥
-    never t told stop =
-        let outcome = with_items files_limit items never_stop (inputs_in t.files) in
-        let is = stops_so now new outcome ending (performs_at now new t (with_items files_limit items never_stop) ending told (ends never_stop)) stop in
-        let (files, there, more) = items_within (inputs_in t.files) files_limit items never_stop (subst (λ (e : Ending). IsStop e.status) is stop) in
-        more
-
-    at : (t : Told) → old.told ≡ Some t → kept_of telling ≢ None → IsStop ending.status → (o : OpensFor (inputs_in t.files) name telling) → StopsHeld telling o.booted
-    at t told kept stop o = absurd (never (after_answer t (load name)) (gave.told ∙ ap (option_map (λ u. after_answer u (load name))) told) stop)
+-- an early end stops no machine
+pub early_run : (telling : Telling) (name : List ℕ) (told : Option Told) (status : Status) → IsEarly status → RunHolds telling name told status
+early_run telling name told status early = each told _ (λ t is kept stop o. absurd (early_no_stop status early stop))
 
 -- the files that the loads gave are those that are there
 module _ (old now : Observed Told) (t : Told) (told : old.told ≡ Some t) (items : List Item) (files others : List (List ℕ)) (given : GaveFiles old now items files) (there : AreThere (inputs_in t.files) files_limit items others) where
@@ -145,11 +108,8 @@ behind_loads telling name old now new bytes m files status gave reads given hold
 -- ---- behind the loads
 
 module _ (telling : Telling) (m : Manifest) (files : List (List ℕ)) where
-  pub no_brought : (ending : Ending) → EndsFor fault_ending (all_brought m.items files nothing_brought) ending → FilesHold telling m files ending.status
-  no_brought ending ends kept stop b = absurd (no_step fault_ending (λ fault more. more) (all_brought m.items files nothing_brought) ending ends stop)
-
-  pub no_start : (wanted : Result World BootFault) (ending : Ending) → EndsFor boot_ending wanted ending → FilesHold telling m files ending.status
-  no_start wanted ending ends kept stop b = absurd (no_step boot_ending (λ fault more. more) wanted ending ends stop)
+  pub early_files : (status : Status) → IsEarly status → FilesHold telling m files status
+  early_files status early kept stop b = absurd (early_no_stop status early stop)
 
   pub no_memory : FilesHold telling m files memory_ending.status
   no_memory kept stop b = absurd stop
@@ -173,6 +133,13 @@ pub stands_in : (telling : Telling) (mode : Mode) (c : Course) (headers : List (
     → TellsHalting telling c old new (Ok answer) → TellsGoingOn telling c old new (Ok answer) → world new ≡ stopped_world mode (turns_of c) headers (world old)
 stands_in telling Halt c headers old new answer is memory halt go_on = (halt is).stands
 stands_in telling GoOn c headers old new answer is memory halt go_on = (go_on is).stands ∙ ap (λ (p : Physical). (turns_in (turns_of c) p).now.world) memory
+
+-- behind its start
+pub holds_started : (asked : Kind) (telling : Telling) (m : Manifest) (files : List (List ℕ)) (s : Started) (status : Status) → (is : IsStarted asked telling m files s)
+    → (kept_of telling ≢ None → RecordsHeld (stopped_world (mode_of telling) (turns_of s.course) is.brought.headers (world s.machine))) → FilesHold telling m files status
+holds_started asked telling m files s status is holds =
+    holds_behind telling m files is.brought (world s.machine) status is.brings is.boots
+    (λ kept. subst (λ (quanta : List Quantum). RecordsHeld (stopped_world (mode_of telling) quanta is.brought.headers (world s.machine))) is.quanta (holds kept))
 
 -- ---- a call
 

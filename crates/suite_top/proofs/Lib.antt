@@ -5,7 +5,7 @@
 -- Causes: the counts that rose, by the status of a call.
 -- Shown: what a machine shows and tells, by what becomes of its run at the first stray access.
 -- Reports, Hits: the parts of the report of a run.
--- Booted, RunEndings: what a boot of the machine gives, and how a run ends.
+-- Booted, RunEndings, Begun: what a boot of the machine gives, how a run ends, and what its first steps lead to.
 -- Demos: the manifest of a demo.
 -- Each: what a loop has seen of each element.
 -- Opened, HeldItems: when a run reaches its machine, and that the items that it keeps are held.
@@ -29,3 +29,4 @@ pub mod Demos
 pub mod Each
 pub mod Opened
 pub mod HeldItems
+pub mod Begun

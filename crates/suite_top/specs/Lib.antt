@@ -16,7 +16,8 @@
 -- HeldItems   KeepsHeld, a clause of `suite`: the numbers of the items that a run keeps are words, and their lists bytes
 -- StatusLaws, HostLaws   what holds of every call
 --
--- Steps, Refusing, Running    for private functions only: a step of a run, why a machine doesn't start, and what is told behind its run
+-- Steps, Refusing, Running, Begun    for private functions only: a step of a run, why a machine doesn't start, what is told behind its run,
+--             and the loads and the start before it
 pub mod Report
 pub mod Telling
 pub mod Watched
@@ -34,3 +35,4 @@ pub mod HostLaws
 pub mod Steps
 pub mod Refusing
 pub mod Running
+pub mod Begun

@@ -14,6 +14,7 @@ mod placements;
 mod points;
 mod report;
 mod run;
+mod started;
 mod telling;
 mod told;
 mod top;

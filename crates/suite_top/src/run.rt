@@ -22,6 +22,7 @@ ghost use Rattle.suite_top.specs.Report.{dumps_of};
 ghost use Rattle.suite_top.specs.Telling.{placement_of, watch_of, telling_value};
 ghost use Rattle.suite_top.specs.Watched.{found_text};
 ghost use Rattle.suite_top.specs.Running.{IsLoaded, IsReady, TellsHalting, TellsGoingOn};
+ghost use Rattle.suite_top.specs.Begun.{LoadsRun, StartsRun};
 ghost use Rattle.suite_top.specs.Run.{files_outcome, run_outcome};
 ghost use Rattle.suite_top.specs.HeldItems.{FilesHold, RunHolds};
 ghost use Rattle.suite_top.specs.Steps.{Gives, manifest_ending, boot_ending};
@@ -31,6 +32,7 @@ use crate::kept::{keep_items, keep_of};
 use crate::loaded::Loaded;
 use crate::points::Points;
 use crate::report::dumps_text;
+use crate::started::Started;
 use crate::telling::Telling;
 use crate::told::told;
 use crate::watched::{found_text, spans_of};
@@ -88,17 +90,18 @@ where
     ensures performs { PerformsCommand (observed H.told H.faults host.old) (observed H.told H.faults host.new) (run_outcome manifest.now (telling_value telling.entry)) (settled_ending result) }
     ensures held { RunHolds (telling_value telling.entry) manifest.now (H.told host.old) (settled_ending result).status }
 {
+    let loaded = load_run(alloc, manifest, host)?;
+    run_files(alloc, loaded, telling, chooser, points, host)
+}
+
+/// Loads the manifest, and the files of its lines.
+pub fn load_run<H: Host>(alloc: Global, manifest: &str, host: &mut H) -> Result<Loaded, Ended>
+    ensures { LoadsRun (observed H.told H.faults host.old) (observed H.told H.faults host.new) manifest.now result }
+{
     let bytes = load_limited(alloc, manifest, MANIFEST_LIMIT, None, host)?;
     let manifest = read_manifest(alloc, &bytes)?;
     let files = load_items(alloc, &manifest.items, host)?;
-    run_files(
-        alloc,
-        Loaded { manifest, files },
-        telling,
-        chooser,
-        points,
-        host,
-    )
+    Ok(Loaded { manifest, files })
 }
 
 fn read_manifest(alloc: Global, bytes: &[u8]) -> Result<Manifest, Ended>
@@ -134,8 +137,28 @@ where
     ensures performs { Performs (observed H.told H.faults host.old) (observed H.told H.faults host.new) (files_outcome (telling_value telling.entry) (manifest_value loaded.manifest) (vec_texts loaded.files.items)) (settled_ending result) }
     ensures held { FilesHold (telling_value telling.entry) (manifest_value loaded.manifest) (vec_texts loaded.files.items) (settled_ending result).status }
 {
-    let Loaded { manifest, files } = loaded;
     let kept = telling.kept();
+    let Started {
+        mut machine,
+        course,
+    } = start(alloc, loaded, telling, chooser)?;
+    let answer = run_machine(alloc, &mut machine, &course, telling, chooser, points)?;
+    Ok(keep_items(alloc, machine, kept, answer, host)?)
+}
+
+/// Starts the machine of what was loaded.
+pub fn start<F: Fn(&[Run], u32) -> Option<usize>>(
+    alloc: Global,
+    loaded: Loaded,
+    telling: Telling<'_>,
+    chooser: &Chooser<F>,
+) -> Result<Started, Ended>
+    requires chooser { IsChooser F.pre F.post chooser.now }
+    requires kind { kind_of chooser.now ≡ placement_of (telling_value telling) }
+    requires loaded { IsLoaded loaded }
+    ensures { StartsRun (kind_of chooser.now) (telling_value telling.entry) (manifest_value loaded.manifest) (vec_texts loaded.files.items) result }
+{
+    let Loaded { manifest, files } = loaded;
     let files = bring_files(alloc, &manifest.items, files)?;
     let setup = Setup {
         pages: manifest.pages,
@@ -145,7 +168,7 @@ where
         starts: manifest.starts,
         stdin: files.stdin,
         mode: telling.mode(),
-        keep: keep_of(kept),
+        keep: keep_of(telling.kept()),
     };
     let course = Course {
         quanta: manifest.quanta,
@@ -153,9 +176,8 @@ where
         watches: manifest.watches,
         dumps: manifest.dumps,
     };
-    let mut machine = boot(alloc, setup, chooser)?;
-    let answer = run_machine(alloc, &mut machine, &course, telling, chooser, points)?;
-    Ok(keep_items(alloc, machine, kept, answer, host)?)
+    let machine = boot(alloc, setup, chooser)?;
+    Ok(Started { machine, course })
 }
 
 /// What the lines bring in.
