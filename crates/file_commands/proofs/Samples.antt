@@ -57,19 +57,19 @@ zero_in_front = refl
 check_is_read : command_of (codes "check" ∷ codes "a.elf" ∷ []) ≡ Some (check (codes "a.elf"))
 check_is_read = refl
 
-run_is_read : command_of (codes "run" ∷ codes "a" ∷ []) ≡ Some (run (codes "a") (record { log = false; mode = Halt; kind = First; kept = None; watch = None }))
+run_is_read : command_of (codes "run" ∷ codes "a" ∷ []) ≡ Some (run (codes "a") (record { log = false; mode = Halt; kind = First; kept = None; watch = None; live = false }))
 unfolding run_options
 run_is_read = refl
 
-log_is_read : command_of (codes "run" ∷ codes "a" ∷ codes "--log" ∷ []) ≡ Some (run (codes "a") (record { log = true; mode = Halt; kind = First; kept = None; watch = None }))
+log_is_read : command_of (codes "run" ∷ codes "a" ∷ codes "--log" ∷ []) ≡ Some (run (codes "a") (record { log = true; mode = Halt; kind = First; kept = None; watch = None; live = false }))
 unfolding run_options
 log_is_read = refl
 
-placement_is_read : command_of (codes "run" ∷ codes "a" ∷ codes "--place" ∷ codes "best" ∷ []) ≡ Some (run (codes "a") (record { log = false; mode = Halt; kind = Best; kept = None; watch = None }))
+placement_is_read : command_of (codes "run" ∷ codes "a" ∷ codes "--place" ∷ codes "best" ∷ []) ≡ Some (run (codes "a") (record { log = false; mode = Halt; kind = Best; kept = None; watch = None; live = false }))
 unfolding run_options
 placement_is_read = refl
 
-both_are_read : command_of (codes "run" ∷ codes "a" ∷ codes "--log" ∷ codes "--place" ∷ codes "last" ∷ []) ≡ Some (run (codes "a") (record { log = true; mode = Halt; kind = Last; kept = None; watch = None }))
+both_are_read : command_of (codes "run" ∷ codes "a" ∷ codes "--log" ∷ codes "--place" ∷ codes "last" ∷ []) ≡ Some (run (codes "a") (record { log = true; mode = Halt; kind = Last; kept = None; watch = None; live = false }))
 unfolding run_options
 both_are_read = refl
 
@@ -77,11 +77,11 @@ placement_in_front : command_of (codes "run" ∷ codes "a" ∷ codes "--place" �
 unfolding run_options
 placement_in_front = refl
 
-go_on_is_read : command_of (codes "run" ∷ codes "a" ∷ codes "--go-on" ∷ []) ≡ Some (run (codes "a") (record { log = false; mode = GoOn; kind = First; kept = None; watch = None }))
+go_on_is_read : command_of (codes "run" ∷ codes "a" ∷ codes "--go-on" ∷ []) ≡ Some (run (codes "a") (record { log = false; mode = GoOn; kind = First; kept = None; watch = None; live = false }))
 unfolding run_options
 go_on_is_read = refl
 
-all_are_read : command_of (codes "run" ∷ codes "a" ∷ codes "--log" ∷ codes "--go-on" ∷ codes "--place" ∷ codes "last" ∷ []) ≡ Some (run (codes "a") (record { log = true; mode = GoOn; kind = Last; kept = None; watch = None }))
+all_are_read : command_of (codes "run" ∷ codes "a" ∷ codes "--log" ∷ codes "--go-on" ∷ codes "--place" ∷ codes "last" ∷ []) ≡ Some (run (codes "a") (record { log = true; mode = GoOn; kind = Last; kept = None; watch = None; live = false }))
 unfolding run_options
 all_are_read = refl
 
@@ -93,13 +93,13 @@ unknown_placement : command_of (codes "run" ∷ codes "a" ∷ codes "--place" �
 unfolding run_options
 unknown_placement = refl
 
-watch_is_read : command_of (codes "run" ∷ codes "a" ∷ codes "--watch" ∷ codes "touch" ∷ []) ≡ Some (run (codes "a") (record { log = false; mode = Halt; kind = First; kept = None; watch = Some Touch }))
+watch_is_read : command_of (codes "run" ∷ codes "a" ∷ codes "--watch" ∷ codes "touch" ∷ []) ≡ Some (run (codes "a") (record { log = false; mode = Halt; kind = First; kept = None; watch = Some Touch; live = false }))
 unfolding run_options
 watch_is_read = refl
 
 watch_is_the_last :
     command_of (codes "run" ∷ codes "a" ∷ codes "--log" ∷ codes "--go-on" ∷ codes "--place" ∷ codes "last" ∷ codes "--watch" ∷ codes "within" ∷ [])
-    ≡ Some (run (codes "a") (record { log = true; mode = GoOn; kind = Last; kept = None; watch = Some Within }))
+    ≡ Some (run (codes "a") (record { log = true; mode = GoOn; kind = Last; kept = None; watch = Some Within; live = false }))
 unfolding run_options
 watch_is_the_last = refl
 
@@ -112,16 +112,31 @@ no_watch :
 unfolding run_options
 no_watch = refl
 
+-- behind all other options
+live_is_read :
+    command_of (codes "run" ∷ codes "a" ∷ codes "--log" ∷ codes "--go-on" ∷ codes "--watch" ∷ codes "within" ∷ codes "--live" ∷ [])
+    ≡ Some (run (codes "a") (record { log = true; mode = GoOn; kind = First; kept = None; watch = Some Within; live = true }))
+unfolding run_options
+live_is_read = refl
+
+-- before another option, twice, and of a trace
+no_live :
+    (command_of (codes "run" ∷ codes "a" ∷ codes "--live" ∷ codes "--log" ∷ []) ∷ command_of (codes "run" ∷ codes "a" ∷ codes "--live" ∷ codes "--watch" ∷ codes "touch" ∷ [])
+    ∷ command_of (codes "run" ∷ codes "a" ∷ codes "--live" ∷ codes "--live" ∷ []) ∷ command_of (codes "trace" ∷ codes "a" ∷ codes "--live" ∷ []) ∷ [])
+    ≡ (None ∷ None ∷ None ∷ None ∷ [])
+unfolding run_options trace_options
+no_live = refl
+
 items_are_read :
     command_of (codes "run" ∷ codes "a" ∷ codes "--items" ∷ codes "1" ∷ codes "i" ∷ [])
-    ≡ Some (run (codes "a") (record { log = false; mode = Halt; kind = First; kept = Some (record { number = 1; file = codes "i" }); watch = None }))
+    ≡ Some (run (codes "a") (record { log = false; mode = Halt; kind = First; kept = Some (record { number = 1; file = codes "i" }); watch = None; live = false }))
 unfolding digits run_options
 items_are_read = refl
 
 -- behind the placement, and before what is watched
 items_are_last_but_one :
     command_of (codes "run" ∷ codes "a" ∷ codes "--log" ∷ codes "--place" ∷ codes "best" ∷ codes "--items" ∷ codes "1000000" ∷ codes "i" ∷ codes "--watch" ∷ codes "touch" ∷ [])
-    ≡ Some (run (codes "a") (record { log = true; mode = Halt; kind = Best; kept = Some (record { number = 1000000; file = codes "i" }); watch = Some Touch }))
+    ≡ Some (run (codes "a") (record { log = true; mode = Halt; kind = Best; kept = Some (record { number = 1000000; file = codes "i" }); watch = Some Touch; live = false }))
 unfolding digits run_options
 items_are_last_but_one = refl
 

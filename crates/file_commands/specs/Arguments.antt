@@ -31,6 +31,7 @@ pub record RunOptions : Type 0 where
   pub kind : Kind
   pub kept : Option KeptItems
   pub watch : Option PointKind
+  pub live : Bool
 
 -- a command with its arguments
 pub data Invocation : Type 0 where
@@ -186,7 +187,7 @@ abbrev pub if_last : {A : Type 0} → List (List ℕ) → A → Option A
 if_last [] options = Some options
 if_last (word ∷ words) options = None
 
--- `[--log] [--go-on] [--place K] [--items N FILE] [--watch W]`
+-- `[--log] [--go-on] [--place K] [--items N FILE] [--watch W] [--live]`
 unfoldable pub run_options : List (List ℕ) → Option RunOptions
 run_options words = do
   log ← flag_of (codes "--log") words
@@ -194,7 +195,8 @@ run_options words = do
   place ← place_of go_on.1
   kept ← kept_of (mode_where go_on.0) place.1
   watch ← watch_of kept.1
-  if_last watch.1 (record { log = log.0; mode = mode_where go_on.0; kind = place.0; kept = kept.0; watch = watch.0 })
+  live ← flag_of (codes "--live") watch.1
+  if_last live.1 (record { log = log.0; mode = mode_where go_on.0; kind = place.0; kept = kept.0; watch = watch.0; live = live.0 })
 
 -- `[--pid P] [--count] [--place K]`
 unfoldable pub trace_options : List (List ℕ) → Option TraceOptions
@@ -266,7 +268,7 @@ kept_given given = (option_map kept_value given.0, map string_bytes given.1.now)
 
 -- the options that it read
 abbrev pub options_value : RunArguments → RunOptions
-options_value o = record { log = o.log; mode = o.mode; kind = o.kind; kept = option_map kept_value o.kept; watch = o.watch }
+options_value o = record { log = o.log; mode = o.mode; kind = o.kind; kept = option_map kept_value o.kept; watch = o.watch; live = o.live }
 
 -- the command that the program read
 abbrev pub invocation : Command → Invocation

@@ -214,6 +214,7 @@ fn read_run_options(words: &[String]) -> Option<RunOptions<'_>>
     let (kind, words) = read_place(words)?;
     let (kept, words) = read_kept(mode, words)?;
     let (watch, words) = read_watch(words)?;
+    let (live, words) = read_flag("--live", words);
     if !words.is_empty() {
         return None;
     }
@@ -223,6 +224,7 @@ fn read_run_options(words: &[String]) -> Option<RunOptions<'_>>
         kind,
         kept,
         watch,
+        live,
     })
 }
 

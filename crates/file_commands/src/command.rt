@@ -35,6 +35,8 @@ pub struct RunOptions<'a> {
     pub kept: Option<KeptItems<'a>>,
     /// `--watch W`: the accesses that hit what the manifest watches are told.
     pub watch: Option<PointKind>,
+    /// `--live`: `out` takes the console turn by turn.
+    pub live: bool,
 }
 
 /// What is shown of a run as a trace.

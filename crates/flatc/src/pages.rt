@@ -15,6 +15,7 @@ usage: flatc COMMAND WORDS
                                               nothing
   list FLT                                    write the listing of the flat file FLT
   run MANIFEST [--log] [--go-on] [--place K] [--items N FILE] [--watch touch|within]
+      [--live]
                                               run the programs of MANIFEST by turns in one
                                               memory; --log tells their system calls too,
                                               --go-on goes on behind the first access that
@@ -25,7 +26,8 @@ usage: flatc COMMAND WORDS
                                               for replay, and not with --go-on; --watch
                                               tells each load and store that touches a range
                                               of the manifest's watch lines, or lies within
-                                              one
+                                              one; --live writes what the programs print
+                                              behind each turn, and not behind the run
   trace MANIFEST [--pid P] [--count] [--place K]
                                               run the programs of MANIFEST as run does, and
                                               show each system call, as strace would; with
