@@ -43,7 +43,7 @@ manifest_is_told = refl
 
 -- no option but what becomes of the run at its first stray access
 abbrev plain : Mode → RunOptions
-plain mode = record { log = false; mode = mode; kind = First; kept = None; watch = None }
+plain mode = record { log = false; mode = mode; kind = First; kept = None; watch = None; live = false }
 
 -- a manifest, and no other file
 alone : List ℕ → Inputs

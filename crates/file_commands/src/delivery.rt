@@ -9,7 +9,7 @@ use host_io::{Sink, SinkError, write_whole};
 use std::alloc::Global;
 
 /// Writes a whole text. The error is the status that the call then ends with.
-fn write_text<S: Sink>(alloc: Global, sink: &mut S, text: &[u8]) -> Result<(), Status>
+pub fn write_text<S: Sink>(alloc: Global, sink: &mut S, text: &[u8]) -> Result<(), Status>
     ensures { WroteText (observed_sink S.told S.faults S.shortages sink.old) (observed_sink S.told S.faults S.shortages sink.new) text.now result }
 {
     match write_whole(alloc, sink, text) {

@@ -28,7 +28,7 @@ pub use arguments::{DEFAULT_STACK, read_arguments};
 pub use check::check_file;
 pub use command::{Command, Format, KeptItems, RunOptions, TraceOptions};
 pub use convert::convert_file;
-pub use delivery::deliver;
+pub use delivery::{deliver, write_text};
 pub use ended::{Ended, settled};
 pub use file_load::load_limited;
 pub use items::load_items;
