@@ -6,12 +6,13 @@
 -- Watched     the hits of a run that is watched, as lines of its report
 -- KeptItems   the items that a run keeps
 -- Run         the commands `run` and `trace`
+-- Live        MeetsLive: a live run, of which `out` takes the console turn by turn
 -- Demo        the command `demo`
 -- Result      result_of: the outcome of each command line
 --
 -- Placements  ArePlacements, which `suite` asks for: a chooser for each placement
 -- Points      ArePoints, which `suite` asks for: a watch point for each kind of hit
--- Call        MeetsResult, the clause of `suite`: a course of the outcome, and a delivery of its ending
+-- Call        MeetsResult, the clause of `suite`: a course of the outcome, and a delivery of its ending; or a live run
 -- Opened      Opens: when a run reaches its machine, and the world that it opens
 -- HeldItems   KeepsHeld, a clause of `suite`: the numbers of the items that a run keeps are words, and their lists bytes
 -- StatusLaws, HostLaws   what holds of every call
@@ -36,3 +37,4 @@ pub mod Steps
 pub mod Refusing
 pub mod Running
 pub mod Begun
+pub mod Live

@@ -9,6 +9,7 @@ mod demo_run;
 mod held;
 mod kept;
 mod laws;
+mod live;
 mod loaded;
 mod placements;
 mod points;

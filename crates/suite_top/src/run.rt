@@ -327,7 +327,7 @@ where
 }
 
 /// The lines of the hits, and behind them those of the dumps.
-fn shown_text(
+pub fn shown_text(
     alloc: Global,
     hits: &Hits,
     machine: &Machine,

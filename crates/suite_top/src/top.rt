@@ -13,12 +13,13 @@ ghost use Rattle.suite_top.specs.Call.{MeetsResult};
 ghost use Rattle.suite_top.specs.HeldItems.{RunHolds, KeepsHeld};
 
 use crate::demo_run::run_demo;
+use crate::live::{Asked, run_live};
 use crate::placements::Placements;
 use crate::points::Points;
 use crate::run::run_file;
 use crate::telling::Telling;
 use file_commands::{
-    Answer, Command, Status, check_file, convert_file, deliver, list_file, read_arguments,
+    Answer, Command, RunOptions, Status, check_file, convert_file, deliver, list_file, read_arguments,
     replay_file, romfs_file, texts, unromfs_file,
 };
 use host_io::{Host, Sink};
@@ -105,7 +106,74 @@ where
     }
 }
 
-/// Carries out the command that the arguments are: those after the program's name. All that it
+/// Runs a manifest live, with the chooser of a placement.
+fn run_live_placed<H: Host, O: Sink, R: Sink, A, B, C, P, Q>(
+    alloc: Global,
+    live: LiveWords<'_>,
+    host: &mut H,
+    out: &mut O,
+    report: &mut R,
+    place: &Placements<A, B, C>,
+    points: &Points<P, Q>,
+) -> Status
+where
+    A: Fn(&[Run], u32) -> Option<usize>,
+    B: Fn(&[Run], u32) -> Option<usize>,
+    C: Fn(&[Run], u32) -> Option<usize>,
+    P: Fn(&[Span], u32, u32) -> bool,
+    Q: Fn(&[Span], u32, u32) -> bool,
+{
+    let LiveWords { manifest, options } = live;
+    let telling = Telling::Report(options);
+    match options.kind {
+        Kind::First => {
+            let asked = Asked {
+                manifest,
+                telling,
+                chooser: &place.first,
+                points,
+            };
+            run_live(alloc, &asked, host, out, report)
+        }
+        Kind::Best => {
+            let asked = Asked {
+                manifest,
+                telling,
+                chooser: &place.best,
+                points,
+            };
+            run_live(alloc, &asked, host, out, report)
+        }
+        Kind::Last => {
+            let asked = Asked {
+                manifest,
+                telling,
+                chooser: &place.last,
+                points,
+            };
+            run_live(alloc, &asked, host, out, report)
+        }
+    }
+}
+
+/// The words of a live run.
+#[derive(Clone, Copy)]
+struct LiveWords<'a> {
+    manifest: &'a str,
+    options: RunOptions<'a>,
+}
+
+/// The words of a live run, if the arguments are those of one.
+fn live_words(arguments: &[String]) -> Option<LiveWords<'_>> {
+    match read_arguments(arguments) {
+        Some(Command::Run { manifest, options }) if options.live => {
+            Some(LiveWords { manifest, options })
+        }
+        _ => None,
+    }
+}
+
+/// Carries out the command that the arguments are: those after the program's name. But for a live run, all that it
 /// writes to the sinks is known before the first byte of it is written.
 pub fn suite<H: Host, O: Sink, R: Sink, A, B, C, P, Q>(
     alloc: Global,
@@ -133,6 +201,9 @@ where
     ensures host_write { result ≡ Status.HostWrite → Rose (H.faults host.old) (H.faults host.new) }
     ensures sink_write { result ≡ Status.SinkWrite → Rose (O.faults out.old) (O.faults out.new) ⊎ Rose (R.faults report.old) (R.faults report.new) }
 {
+    if let Some(live) = live_words(arguments) {
+        return run_live_placed(alloc, live, host, out, report, place, points);
+    }
     match answer_command(alloc, arguments, host, place, points) {
         Ok(answer) => deliver(
             alloc,
