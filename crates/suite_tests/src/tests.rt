@@ -2,6 +2,7 @@
 
 mod asked;
 mod files;
+mod live;
 mod sinks;
 mod sizes;
 

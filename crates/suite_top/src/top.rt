@@ -19,8 +19,8 @@ use crate::points::Points;
 use crate::run::run_file;
 use crate::telling::Telling;
 use file_commands::{
-    Answer, Command, RunOptions, Status, check_file, convert_file, deliver, list_file, read_arguments,
-    replay_file, romfs_file, texts, unromfs_file,
+    Answer, Command, RunOptions, Status, check_file, convert_file, deliver, list_file,
+    read_arguments, replay_file, romfs_file, texts, unromfs_file,
 };
 use host_io::{Host, Sink};
 use page_runs::{Kind, Run};

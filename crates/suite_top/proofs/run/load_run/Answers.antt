@@ -36,7 +36,7 @@ returns-in_err-files g c =
     let ends = rw c.deref-2.ensures.value at c.in_err-files.ensures in
     rw (p.1, p.2) (record {
       performs = λ telling. behind_manifest telling c.args.manifest.now _ _ _ _ _ c.in_ok-bytes.ensures
-      (without_files telling _ (manifest_value c.in_ok-manifest.manifest) reads _ _ _ ends);
+          (without_files telling _ (manifest_value c.in_ok-manifest.manifest) reads _ _ _ ends);
       early = without_items _ _ _ _ ends;
     })
 
