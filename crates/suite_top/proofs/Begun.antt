@@ -9,6 +9,7 @@ use Rattle.manifest_text.specs.Manifest.{Fault}
 use Rattle.manifest_text.specs.Values.{Item, Manifest}
 use Rattle.flat_machine.specs.State.{world}
 use Rattle.file_commands.specs.declared.status.Status.{Status}
+use Rattle.file_commands.specs.declared.status.Status.TheVariants.{HostRead, Refused, Memory}
 use Rattle.file_commands.specs.Texts.Refusals.{too_long_at}
 use Rattle.file_commands.specs.Ending.{Ending, memory_ending, refused_ending, OrMemory}
 use Rattle.file_commands.specs.Outcome.{Request, load, store, Outcome, Inputs, failure_ending}

@@ -138,10 +138,9 @@ where
     ensures held { FilesHold (telling_value telling.entry) (manifest_value loaded.manifest) (vec_texts loaded.files.items) (settled_ending result).status }
 {
     let kept = telling.kept();
-    let Started {
-        mut machine,
-        course,
-    } = start(alloc, loaded, telling, chooser)?;
+    let started = start(alloc, loaded, telling, chooser)?;
+    let mut machine = started.machine;
+    let course = started.course;
     let answer = run_machine(alloc, &mut machine, &course, telling, chooser, points)?;
     Ok(keep_items(alloc, machine, kept, answer, host)?)
 }
