@@ -19,9 +19,9 @@ use Rattle.flat_machine.specs.Runs.{repeated}
 use Rattle.flat_machine.specs.State.{State, world, one_memory}
 use Rattle.file_commands.specs.declared.answer.Answer.{Answer}
 use Rattle.file_commands.specs.declared.status.Status.{Status}
-use Rattle.file_commands.specs.Ending.{Ending, done_ending, usage_ending, memory_ending, OrMemory}
+use Rattle.file_commands.specs.Ending.{Ending, done_ending, memory_ending, OrMemory}
 use Rattle.file_commands.specs.Outcome.{Request, load, store, Outcome, Inputs, failure_ending}
-use Rattle.file_commands.specs.Load.{at_once, with_load}
+use Rattle.file_commands.specs.Load.{at_once}
 use Rattle.file_commands.specs.FileLoad.{GaveFile}
 use Rattle.file_commands.specs.Items.{files_limit, with_items}
 use Rattle.file_commands.specs.ItemLoads.{GaveFiles}
