@@ -6,7 +6,7 @@ use Rattle.quantum_sched.specs.declared.Quantum.{Quantum}
 use Rattle.manifest_text.specs.declared.manifest.Dump.{Dump}
 use Rattle.manifest_text.specs.declared.manifest.WatchLine.{WatchLine}
 use Rattle.manifest_text.specs.Manifest.{Fault}
-use Rattle.manifest_text.specs.Values.{Item, Manifest}
+use Rattle.manifest_text.specs.Values.{Item, Manifest, manifest_value, vec_texts}
 use Rattle.flat_machine.specs.State.{world}
 use Rattle.file_commands.specs.declared.status.Status.{Status}
 use Rattle.file_commands.specs.declared.status.Status.TheVariants.{HostRead, Refused, Memory}
@@ -19,14 +19,16 @@ use Rattle.file_commands.specs.Items.{load_limit, files_limit, has_file, with_it
 use Rattle.file_commands.specs.Manifests.{manifest_limit}
 use Rattle.file_commands.specs.Observed.{Observed}
 use Rattle.file_commands.specs.HostCourse.{HostCourse, complete, failed, out_of_memory, AreLoads, IsCourseOf, EndsAfter, Performs, PerformsOver, PerformsCommand}
+use Rattle.file_commands.specs.declared.ended.Ended.{Ended}
+use Rattle.suite_top.specs.declared.loaded.Loaded.{Loaded}
 use Rattle.suite_top.specs.declared.started.Started.{Started}
 use Rattle.suite_top.specs.Telling.{Telling, mode_of}
 use Rattle.suite_top.specs.Run.{mode_outcome, files_outcome}
 use Rattle.suite_top.specs.Running.{turns_of}
 use Rattle.suite_top.specs.Steps.{EndsFor, manifest_ending}
 use Rattle.suite_top.specs.Opened.{IsStop}
-use Rattle.suite_top.specs.Begun.{IsEarly, IsStarted}
-use Rattle.suite_top.proofs.RunEndings.{behind_start}
+use Rattle.suite_top.specs.Begun.{IsEarly, GaveRun, IsStarted, StartsRun, BeginsRun}
+use Rattle.suite_top.proofs.RunEndings.{behind_manifest, behind_files, behind_start}
 
 -- ---- an early end
 
@@ -122,3 +124,14 @@ behind_started asked telling m files s old new ending is performs =
     (subst (λ (quanta : List Quantum). of quanta m.watches m.dumps) is.quanta
     (subst (λ (watches : List WatchLine). of (turns_of s.course) watches m.dumps) is.watches
     (subst (λ (dumps : List Dump). of (turns_of s.course) s.course.watches.items dumps) is.dumps performs)))
+
+-- ---- both
+
+pub begins_by : (old new : Observed Told) (name : List ℕ) (asked : Kind) (telling : Telling) (l : Loaded) (result : Result Started Ended) → GaveRun old new name l
+    → StartsRun asked telling (manifest_value l.manifest) (vec_texts l.files.items) result → BeginsRun old new name asked telling result
+begins_by old new name asked telling l (Ok started) gave is = record { loaded = l; gave = gave; started = is }
+begins_by old new name asked telling l (Err ended) gave ends = record {
+  performs = behind_manifest telling name old gave.now new gave.text _ gave.found
+  (behind_files telling _ (manifest_value l.manifest) gave.reads gave.now new new _ _ gave.files (ends.performs new));
+  early = ends.early;
+}

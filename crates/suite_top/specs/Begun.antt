@@ -75,3 +75,18 @@ pub record EndsStarting (telling : Telling) (m : Manifest) (files : List (List �
 abbrev pub StartsRun : Kind → Telling → Manifest → (files : List (List ℕ)) → Result Started Ended → Type 0
 StartsRun asked telling m files (Ok started) = IsStarted asked telling m files started
 StartsRun asked telling m files (Err ended) = EndsStarting telling m files (ending_at ended)
+
+-- ---- both
+
+pub record HasBegun (old new : Observed Told) (name : List ℕ) (asked : Kind) (telling : Telling) (s : Started) : Type 0 where
+  pub loaded : Loaded
+  pub gave : GaveRun old new name loaded
+  pub started : IsStarted asked telling (manifest_value loaded.manifest) (vec_texts loaded.files.items) s
+
+pub record EndsBeginning (old new : Observed Told) (name : List ℕ) (telling : Telling) (ending : Ending) : Type 0 where
+  pub performs : PerformsCommand old new (run_outcome name telling) ending
+  pub early : IsEarly ending.status
+
+abbrev pub BeginsRun : (old new : Observed Told) → (name : List ℕ) → Kind → Telling → Result Started Ended → Type 0
+BeginsRun old new name asked telling (Ok started) = HasBegun old new name asked telling started
+BeginsRun old new name asked telling (Err ended) = EndsBeginning old new name telling (ending_at ended)

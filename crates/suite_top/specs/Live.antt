@@ -23,6 +23,9 @@ use Rattle.file_commands.specs.Manifests.{manifest_limit, fault_ending}
 use Rattle.file_commands.specs.Observed.{Observed, ObservedSink}
 use Rattle.file_commands.specs.HostCourse.{after_answers, Performs}
 use Rattle.file_commands.specs.Delivery.{SinkStop, status_at, StopCounts, TookAll, CutShort}
+use Rattle.flat_machine.specs.State.{State, world}
+use Rattle.suite_top.specs.declared.live.Cut.{Cut}
+use Rattle.suite_top.specs.declared.live.Cut.TheVariants as live
 use Rattle.suite_top.specs.KeptItems.{keep_of}
 use Rattle.suite_top.specs.Telling.{Telling, Report, mode_of, placement_of, kept_of}
 use Rattle.suite_top.specs.Run.{start_line, opening, boot_fault, stopped_world, run_outcome}
@@ -126,3 +129,15 @@ EndsLive (cut n) outcome pieces c =
 abbrev pub MeetsLive : (manifest : List ℕ) → RunOptions → Inputs → LiveCall → Type 0
 MeetsLive manifest options inputs c =
     (course : LiveCourse) × EndsLive course (run_outcome manifest (Report options) inputs) (λ n. run_pieces manifest (Report options) n inputs) c
+
+-- ---- for private functions only
+
+-- what the console of a machine grew by
+abbrev pub growth : State → State → List ℕ
+growth old new = drop (length (world old).rest.console) (world new).rest.console
+
+-- a piece was taken, or `out` stopped within it
+abbrev pub WrotePiece : (old new : ObservedSink) → (piece : List ℕ) → Result (Unit {0}) Cut → Type 0
+WrotePiece old new piece (Ok x) = TookAll old new piece
+WrotePiece old new piece (Err live.Memory) = ⊥
+WrotePiece old new piece (Err (live.Out status)) = (stop : SinkStop) × CutShort stop old new piece × (status ≡ status_at stop)

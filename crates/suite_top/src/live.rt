@@ -1,9 +1,10 @@
 //! A live run: `out` takes the console turn by turn.
-ghost use Rattle.std.specs.Prelude.{◌≡◌, map};
+ghost use Rattle.std.specs.Prelude.{◌≡◌, ◌≤◌, drop, length};
 ghost use Rattle.page_runs.specs.Choosers.{IsChooser, kind_of};
-ghost use Rattle.watch_points.specs.Watchers.{IsWatcher};
 ghost use Rattle.file_commands.specs.Observed.{observed, observed_sink};
-ghost use Rattle.suite_top.specs.Points.{ArePoints};
+ghost use Rattle.flat_machine.specs.State.{world};
+ghost use Rattle.suite_top.specs.Begun.{BeginsRun};
+ghost use Rattle.suite_top.specs.Live.{WrotePiece};
 ghost use Rattle.suite_top.specs.Telling.{placement_of, telling_value};
 
 use crate::course::Course;
@@ -118,6 +119,9 @@ fn begin<H: Host, F, P, Q>(
 ) -> Result<Started, Ended>
 where
     F: Fn(&[Run], u32) -> Option<usize>,
+    requires chooser { IsChooser F.pre F.post asked.now.chooser.now }
+    requires kind { kind_of asked.now.chooser.now ≡ placement_of (telling_value asked.now.telling) }
+    ensures { BeginsRun (observed H.told H.faults host.old) (observed H.told H.faults host.new) asked.now.manifest.now (kind_of asked.now.chooser.now) (telling_value asked.now.telling) result }
 {
     let loaded = load_run(alloc, asked.manifest, host)?;
     start(alloc, loaded, asked.telling, asked.chooser)
@@ -255,12 +259,13 @@ fn write_piece<O: Sink>(
     machine: &Machine,
     taken: usize,
     out: &mut O,
-) -> Result<(), Cut> {
-    match machine.console().get(taken..) {
-        Some(piece) => match write_text(alloc, out, piece) {
-            Ok(()) => Ok(()),
-            Err(status) => Err(Cut::Out(status)),
-        },
-        None => Ok(()),
+) -> Result<(), Cut>
+    requires { taken ≤ length (world machine.now).rest.console }
+    ensures { WrotePiece (observed_sink O.told O.faults O.shortages out.old) (observed_sink O.told O.faults O.shortages out.new) (drop taken (world machine.now).rest.console) result }
+{
+    let (_, piece) = machine.console().split_at(taken);
+    match write_text(alloc, out, piece) {
+        Ok(()) => Ok(()),
+        Err(status) => Err(Cut::Out(status)),
     }
 }
