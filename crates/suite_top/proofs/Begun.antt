@@ -64,7 +64,7 @@ early_performs old new outcome ending early performs = by performs.course perfor
   where
     by : (course : HostCourse) → IsCourseOf outcome.requests course → EndsAfter outcome.ending course ending → IsEarly ending.status
     by complete is ends = subst (λ (e : Ending). IsEarly e.status) (sym ends.0) early.0
-    by (failed done last) is ends = early_or_memory (failure_ending last) ending (early_failure done last is.0 (subst AreLoads is.1.0 early.1)) ends
+    by (failed done last) is ends = early_or_memory (failure_ending last) ending (early_failure done last is.0 (subst AreLoads is.1 early.1)) ends
     by (out_of_memory done) is ends = subst (λ (e : Ending). IsEarly e.status) (sym ends) tt
 
 early_command : (old new : Observed Told) (command : Inputs → Outcome) (ending : Ending) → ((inputs : Inputs) → IsEarlyOutcome (command inputs)) → PerformsCommand old new command ending → IsEarly ending.status
@@ -90,17 +90,15 @@ early_load limit line name rest each inputs = early_limited limit line name (inp
 early_items : (left : ℕ) (items : List Item) (rest : List (List ℕ) → Outcome) → ((files : List (List ℕ)) → IsEarlyOutcome (rest files)) → (inputs : Inputs) → IsEarlyOutcome (with_items left items rest inputs)
 unfolding with_items
 early_items left [] rest each inputs = each []
-early_items left (item ∷ items) rest each inputs = by (has_file item.kind)
+early_items left (item ∷ items) rest each inputs =
+    by (has_file item.kind) (λ bytes more. early_items (left - length bytes) items (λ files. rest (bytes ∷ files)) (λ files. each (bytes ∷ files)) more)
   where
     next : List ℕ → Inputs → Outcome
     next bytes = with_items (left - length bytes) items (λ files. rest (bytes ∷ files))
 
-    each_next : (bytes : List ℕ) (more : Inputs) → IsEarlyOutcome (next bytes more)
-    each_next bytes more = early_items (left - length bytes) items (λ files. rest (bytes ∷ files)) (λ files. each (bytes ∷ files)) more
-
-    by : (b : Bool) → IsEarlyOutcome (cond b (with_load (load_limit item.kind left) (Some item.line) item.name next inputs) (next [] inputs))
-    by true = early_load (load_limit item.kind left) (Some item.line) item.name next each_next inputs
-    by false = each_next [] inputs
+    by : (b : Bool) → ((bytes : List ℕ) (more : Inputs) → IsEarlyOutcome (next bytes more)) → IsEarlyOutcome (cond b (with_load (load_limit item.kind left) (Some item.line) item.name next inputs) (next [] inputs))
+    by true each_next = early_load (load_limit item.kind left) (Some item.line) item.name next each_next inputs
+    by false each_next = each_next [] inputs
 
 pub without_file : (old new : Observed Told) (name : List ℕ) (ending : Ending) → EndsWithout manifest_limit None old new name ending → IsEarly ending.status
 without_file old new name ending ends =
