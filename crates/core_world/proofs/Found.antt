@@ -1,5 +1,5 @@
 -- Who falls has a core, and the bytes of segments are few.
-use Rattle.std.proofs.Common.{◌≡◌, ℕ, zero, suc, ◌+◌, ◌*◌, ◌≤◌, Bool, true, false, cond, List, [], ◌∷◌, ◌++◌, map, length, length-append, Option, Some, None, unwrap_or, is_some, refl, sym, ap, ◌∙◌, arith}
+use Rattle.std.proofs.Common.{◌≡◌, ◌≢◌, ℕ, zero, suc, ◌+◌, ◌*◌, ◌≤◌, Bool, true, false, cond, List, [], ◌∷◌, ◌++◌, map, length, length-append, Option, Some, None, unwrap_or, is_some, refl, sym, ap, ◌∙◌, arith}
 use Rattle.std.specs.List.{AllByRecursion}
 use Rattle.std.proofs.lemmas.List.Elements.{All-from_recursion}
 use Rattle.byte_words.specs.ByteMap.{Bytes}
@@ -46,7 +46,7 @@ by_trap_have w pid None is = tt
 by_trap_have w pid (Some signal) is = (trapped_core w signal (find pid_of pid w.procs) is, tt)
 
 module _ (w now : World) (signal : ℕ) (procs : now.procs ≡ w.procs) (spaces : now.spaces ≡ w.spaces) (act : Process → (s : Space) → Outcome) where
-  acted_core : (o : Option Process) (out : Outcome) → by_process w.spaces act o ≡ out → (out ≡ idle → ⊥) → is_some (core_for now signal o) ≡ true
+  acted_core : (o : Option Process) (out : Outcome) → by_process w.spaces act o ≡ out → out ≢ idle → is_some (core_for now signal o) ≡ true
   acted_core None out is busy = absurd (busy (sym is))
   acted_core (Some p) out is busy = in_its_space (find id_of p.space now.spaces) (ap (λ (ss : List LiveSpace). in_space act p (find id_of p.space ss)) spaces ∙ is)
     where
